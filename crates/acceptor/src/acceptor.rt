@@ -1,5 +1,6 @@
 ghost use Rattle.std.specs.Prelude.{◌≡◌, false, IfOk, OnOk, OnErr};
 ghost use Rattle.std.specs.Option.{option_copied};
+ghost use Rattle.object.specs.Results.{Becomes};
 ghost use Rattle.ballot.specs.Ballots.{higher, is_promise};
 ghost use Rattle.acceptor.specs.Reports.{IsReport};
 ghost use Rattle.acceptor.specs.Places.{is_higher};
@@ -57,10 +58,9 @@ impl<C: Value> Acceptor<C> {
     /// Hears a P1a: promises the ballot where it is higher, and answers with a P1b, which has the ballot
     /// that is promised now and a report of what was accepted.
     pub fn on_p1a(&mut self, ballot: Ballot) -> Result<(Ballot, Vec<Pvalue<C>>), AllocError>
-        ensures state { OnOk result (self.new ≡ after_p1a self.old ballot) }
+        ensures state { Becomes result self.old self.new (after_p1a self.old ballot) }
         ensures promised { IfOk result (λ answer. answer.0 ≡ higher self.old.promised ballot) }
         ensures report { IfOk result (λ answer. IsReport self.old.accepted answer.1.items) }
-        ensures err { OnErr result (self.new ≡ self.old) }
     {
         let report = self.report()?;
         let promised = match self.promised {

@@ -1,4 +1,4 @@
-ghost use Rattle.std.specs.Prelude.{◌≡◌, ◌++◌, OnOk, OnErr, take, vec_len};
+ghost use Rattle.object.specs.Results.{AddsAtEnd, WritesAtEnd};
 ghost use Rattle.ballot.specs.Letters.{to_all};
 
 use crate::ballot::Ballot;
@@ -97,8 +97,7 @@ pub fn send_to_all<C: Value>(
     body: LetterBody<C>,
     out: &mut Vec<Letter<C>>,
 ) -> Result<(), AllocError>
-    ensures ok { OnOk result (out.new.items ≡ out.old.items ++ to_all members from body) }
-    ensures err { OnErr result (out.new.items ≡ out.old.items) }
+    ensures ok { AddsAtEnd result out.old out.new (to_all members from body) }
 {
     let len = out.len();
     let sent = append_to_all(members, from, body, out);
@@ -115,8 +114,7 @@ fn append_to_all<C: Value>(
     body: LetterBody<C>,
     out: &mut Vec<Letter<C>>,
 ) -> Result<(), AllocError>
-    ensures ok { OnOk result (out.new.items ≡ out.old.items ++ to_all members from body) }
-    ensures front { take (vec_len out.old) out.new.items ≡ out.old.items }
+    ensures ok { WritesAtEnd result out.old out.new (to_all members from body) }
 {
     let last = members.count();
     for before in 0..last - 1 {

@@ -1,4 +1,5 @@
-ghost use Rattle.std.specs.Prelude.{◌≡◌, ◌++◌, ◌∷◌, [], IfOk, OnOk, OnErr, true};
+ghost use Rattle.std.specs.Prelude.{◌≡◌, ◌++◌, ◌∷◌, [], IfOk, true};
+ghost use Rattle.object.specs.Results.{Becomes};
 
 use crate::ballot::Ballot;
 use crate::slot::Slot;
@@ -79,8 +80,7 @@ impl<C> Pvalues<C> {
     pub fn push(&mut self, pvalue: Pvalue<C>) -> Result<(), AllocError>
     where
         C: Drop,
-        ensures ok { OnOk result (self.new ≡ self.old ++ pvalue ∷ []) }
-        ensures err { OnErr result (self.new ≡ self.old) }
+        ensures ok { Becomes result self.old self.new (self.old ++ pvalue ∷ []) }
     {
         self.items.push(pvalue)?;
         Ok(())

@@ -1,7 +1,8 @@
-ghost use Rattle.std.specs.Prelude.{◌≡◌, ◌==◌, ◌<◌, ◌^◌, IfOk, OnOk, OnErr, filter, nat_le};
+ghost use Rattle.std.specs.Prelude.{◌≡◌, ◌==◌, ◌<◌, ◌^◌, IfOk, filter, nat_le};
 ghost use Rattle.std.specs.Option.{option_copied, option_copied_mut};
 ghost use Rattle.std.specs.Borrow.{LendsIf, sem};
 ghost use Rattle.std.specs.FinMap as slots;
+ghost use Rattle.object.specs.Results.{Becomes};
 ghost use Rattle.ballot.specs.Rests.{kept_from};
 ghost use Rattle.ballot.specs.contracts.slot_map.SlotMap.{the_row};
 
@@ -93,8 +94,7 @@ impl<X> SlotMap<X> {
     pub fn insert(&mut self, slot: Slot, value: X) -> Result<(), AllocError>
     where
         X: Drop,
-        ensures ok { OnOk result (self.new ≡ slots.insert self.old slot value) }
-        ensures err { OnErr result (self.new ≡ self.old) }
+        ensures ok { Becomes result self.old self.new (slots.insert self.old slot value) }
     {
         self.entries.insert(slot, value)?;
         Ok(())

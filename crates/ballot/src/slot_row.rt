@@ -1,6 +1,7 @@
 ghost use Rattle.std.specs.Prelude.{◌≡◌, ◌⊎◌, ◌∷◌, [], ◌+◌, ◌<◌, ◌≤◌, ◌^◌, ℕ, Some, None, IfOk, IfSome, IfNone, OnOk, OnErr, length, max, nat_le, if◌then◌else◌};
 ghost use Rattle.std.specs.Option.{option_copied};
 ghost use Rattle.std.specs.FinMap as slots;
+ghost use Rattle.object.specs.Results.{Becomes};
 ghost use Rattle.ballot.specs.Rests.{kept_from};
 ghost use Rattle.ballot.specs.SlotRows.{in_row, with_row, but_at};
 ghost use Rattle.ballot.specs.Slots.{Slots};
@@ -83,8 +84,7 @@ impl<X> SlotRow<X> {
     pub fn insert(&mut self, slot: Slot, value: X) -> Result<(), AllocError>
     where
         X: Drop,
-        ensures ok { OnOk result (self.new ≡ slots.insert self.old slot value) }
-        ensures err { OnErr result (self.new ≡ self.old) }
+        ensures ok { Becomes result self.old self.new (slots.insert self.old slot value) }
     {
         self.first = first_for(self.first, &self.row, slot);
         if let Some(place) = place_in_row(self.first, self.row.len(), slot) {

@@ -1,4 +1,5 @@
-ghost use Rattle.std.specs.Prelude.{◌≡◌, ◌<◌, ◌≤◌, ◌+◌, ◌++◌, length, take, vec_len, vec_capacity, decimal, OnOk, OnErr};
+ghost use Rattle.std.specs.Prelude.{◌<◌, ◌≤◌, ◌+◌, length, vec_len, vec_capacity, decimal, OnErr};
+ghost use Rattle.object.specs.Results.{AddsAtEnd, WritesAtEnd};
 ghost use Rattle.bean_codec.specs.Lines.{line_text};
 ghost use Rattle.bean_codec.specs.Replies.{count_text};
 
@@ -7,8 +8,7 @@ use std::alloc::AllocError;
 
 /// Writes the digits of a number at the end.
 pub fn append_number(number: u64, out: &mut Vec<u8>) -> Result<(), AllocError>
-    ensures ok { OnOk result (out.new.items ≡ out.old.items ++ decimal number) }
-    ensures err { OnErr result (out.new.items ≡ out.old.items) }
+    ensures ok { AddsAtEnd result out.old out.new (decimal number) }
     ensures full { OnErr result (vec_capacity out.old < vec_len out.old + length (decimal number)) }
     ensures room { vec_capacity out.old ≤ vec_capacity out.new }
 {
@@ -18,8 +18,7 @@ pub fn append_number(number: u64, out: &mut Vec<u8>) -> Result<(), AllocError>
 
 /// Writes a line at the end. Where memory runs out, a part of it may stand there.
 pub fn append_line(text: &[u8], out: &mut Vec<u8>) -> Result<(), AllocError>
-    ensures ok { OnOk result (out.new.items ≡ out.old.items ++ line_text text.now) }
-    ensures front { take (vec_len out.old) out.new.items ≡ out.old.items }
+    ensures ok { WritesAtEnd result out.old out.new (line_text text.now) }
     ensures full { OnErr result
         (vec_capacity out.old < vec_len out.old + length (line_text text.now)) }
 {
@@ -30,8 +29,7 @@ pub fn append_line(text: &[u8], out: &mut Vec<u8>) -> Result<(), AllocError>
 /// Writes a line of a word and a number at the end. Where memory runs out, a part of it may stand there.
 #[tactic(auto, unfolding(crate::specs::Replies::count_text))]
 pub fn append_count(word: &[u8], number: u64, out: &mut Vec<u8>) -> Result<(), AllocError>
-    ensures ok { OnOk result (out.new.items ≡ out.old.items ++ count_text word.now number) }
-    ensures front { take (vec_len out.old) out.new.items ≡ out.old.items }
+    ensures ok { WritesAtEnd result out.old out.new (count_text word.now number) }
     ensures full { OnErr result
         (vec_capacity out.old < vec_len out.old + length (count_text word.now number)) }
     ensures room { vec_capacity out.old ≤ vec_capacity out.new }

@@ -1,5 +1,6 @@
-ghost use Rattle.std.specs.Prelude.{◌≡◌, ◌<◌, ◌≤◌, ◌+◌, ◌^◌, ◌++◌, length, take, vec_len, vec_capacity, codes, IfSome, IfNone, OnOk, OnErr};
+ghost use Rattle.std.specs.Prelude.{◌≡◌, ◌<◌, ◌≤◌, ◌+◌, ◌^◌, length, vec_len, vec_capacity, codes, IfSome, IfNone, OnErr};
 ghost use Rattle.std.specs.List.{flat_map};
+ghost use Rattle.object.specs.Results.{WritesAtEnd};
 ghost use Rattle.bean_codec.specs.Lines.{line_text};
 ghost use Rattle.bean_codec.specs.Replies.{data_text, tube_text, tubes_data};
 
@@ -10,8 +11,7 @@ use std::alloc::AllocError;
 /// Writes a list of tubes at the end. Where memory runs out, a part of it may stand there.
 #[tactic(auto, unfolding(crate::specs::Replies::data_text))]
 pub fn append_tubes(names: &[Name], out: &mut Vec<u8>) -> Result<(), AllocError>
-    ensures ok { OnOk result (out.new.items ≡ out.old.items ++ data_text (tubes_data names.now)) }
-    ensures front { take (vec_len out.old) out.new.items ≡ out.old.items }
+    ensures ok { WritesAtEnd result out.old out.new (data_text (tubes_data names.now)) }
     ensures full { OnErr result
         (vec_capacity out.old < vec_len out.old + length (data_text (tubes_data names.now))) }
 {
@@ -47,8 +47,7 @@ fn size_of_tube(name: &Name) -> u64
 /// Writes the data of a list at the end.
 #[tactic(auto, unfolding(crate::specs::Replies::tubes_data))]
 fn append_data(names: &[Name], out: &mut Vec<u8>) -> Result<(), AllocError>
-    ensures ok { OnOk result (out.new.items ≡ out.old.items ++ tubes_data names.now) }
-    ensures front { take (vec_len out.old) out.new.items ≡ out.old.items }
+    ensures ok { WritesAtEnd result out.old out.new (tubes_data names.now) }
     ensures full { OnErr result
         (vec_capacity out.old < vec_len out.old + length (tubes_data names.now)) }
     ensures room { vec_capacity out.old ≤ vec_capacity out.new }
@@ -63,8 +62,7 @@ fn append_data(names: &[Name], out: &mut Vec<u8>) -> Result<(), AllocError>
 /// Writes one tube of a list at the end.
 #[tactic(auto, unfolding(crate::specs::Replies::tube_text))]
 fn append_tube(name: &Name, out: &mut Vec<u8>) -> Result<(), AllocError>
-    ensures ok { OnOk result (out.new.items ≡ out.old.items ++ tube_text name.now) }
-    ensures front { take (vec_len out.old) out.new.items ≡ out.old.items }
+    ensures ok { WritesAtEnd result out.old out.new (tube_text name.now) }
     ensures full { OnErr result
         (vec_capacity out.old < vec_len out.old + length (tube_text name.now)) }
     ensures room { vec_capacity out.old ≤ vec_capacity out.new }

@@ -1,4 +1,5 @@
-ghost use Rattle.std.specs.Prelude.{◌≡◌, ◌<◌, ◌≤◌, ◌+◌, ◌++◌, length, take, vec_len, vec_capacity, codes, OnOk, OnErr};
+ghost use Rattle.std.specs.Prelude.{◌<◌, ◌≤◌, ◌+◌, ◌++◌, length, vec_len, vec_capacity, codes, OnErr};
+ghost use Rattle.object.specs.Results.{AddsAtEnd, WritesAtEnd};
 ghost use Rattle.bean_codec.specs.Lines.{line_text};
 ghost use Rattle.bean_codec.specs.Replies.{reply_text, fault_text, job_text, data_text};
 
@@ -10,8 +11,7 @@ use std::alloc::AllocError;
 
 /// Writes the text of a reply at the end. Where memory runs out, nothing is written.
 pub fn write_reply(reply: &Reply, out: &mut Vec<u8>) -> Result<(), AllocError>
-    ensures ok { OnOk result (out.new.items ≡ out.old.items ++ reply_text reply.now) }
-    ensures err { OnErr result (out.new.items ≡ out.old.items) }
+    ensures ok { AddsAtEnd result out.old out.new (reply_text reply.now) }
     ensures full { OnErr result
         (vec_capacity out.old < vec_len out.old + length (reply_text reply.now)) }
 {
@@ -26,8 +26,7 @@ pub fn write_reply(reply: &Reply, out: &mut Vec<u8>) -> Result<(), AllocError>
 /// Writes the text of a reply at the end. Where memory runs out, a part of it may stand there.
 #[tactic(auto, unfolding(crate::specs::Replies::reply_text))]
 fn append_reply(reply: &Reply, out: &mut Vec<u8>) -> Result<(), AllocError>
-    ensures ok { OnOk result (out.new.items ≡ out.old.items ++ reply_text reply.now) }
-    ensures front { take (vec_len out.old) out.new.items ≡ out.old.items }
+    ensures ok { WritesAtEnd result out.old out.new (reply_text reply.now) }
     ensures full { OnErr result
         (vec_capacity out.old < vec_len out.old + length (reply_text reply.now)) }
 {
@@ -56,9 +55,7 @@ fn append_reply(reply: &Reply, out: &mut Vec<u8>) -> Result<(), AllocError>
 
 /// The tube that is used.
 fn append_using(tube: &Name, out: &mut Vec<u8>) -> Result<(), AllocError>
-    ensures ok { OnOk result
-        (out.new.items ≡ out.old.items ++ line_text (codes "USING " ++ tube.now)) }
-    ensures front { take (vec_len out.old) out.new.items ≡ out.old.items }
+    ensures ok { WritesAtEnd result out.old out.new (line_text (codes "USING " ++ tube.now)) }
     ensures full { OnErr result
         (vec_capacity out.old < vec_len out.old + length (line_text (codes "USING " ++ tube.now))) }
 {
@@ -70,8 +67,7 @@ fn append_using(tube: &Name, out: &mut Vec<u8>) -> Result<(), AllocError>
 /// A job: a line with the word, its id and the size of its body, and the body.
 #[tactic(auto, unfolding(crate::specs::Replies::job_text))]
 fn append_job(word: &[u8], id: u64, body: &Body, out: &mut Vec<u8>) -> Result<(), AllocError>
-    ensures ok { OnOk result (out.new.items ≡ out.old.items ++ job_text word.now id body.now) }
-    ensures front { take (vec_len out.old) out.new.items ≡ out.old.items }
+    ensures ok { WritesAtEnd result out.old out.new (job_text word.now id body.now) }
     ensures full { OnErr result
         (vec_capacity out.old < vec_len out.old + length (job_text word.now id body.now)) }
 {
@@ -89,8 +85,7 @@ fn append_job(word: &[u8], id: u64, body: &Body, out: &mut Vec<u8>) -> Result<()
 /// A report: a line with the size of its text, and the text.
 #[tactic(auto, unfolding(crate::specs::Replies::data_text))]
 fn append_report(text: &Body, out: &mut Vec<u8>) -> Result<(), AllocError>
-    ensures ok { OnOk result (out.new.items ≡ out.old.items ++ data_text text.now) }
-    ensures front { take (vec_len out.old) out.new.items ≡ out.old.items }
+    ensures ok { WritesAtEnd result out.old out.new (data_text text.now) }
     ensures full { OnErr result
         (vec_capacity out.old < vec_len out.old + length (data_text text.now)) }
 {
@@ -102,8 +97,7 @@ fn append_report(text: &Body, out: &mut Vec<u8>) -> Result<(), AllocError>
 /// Writes the text that answers a fault at the end. Where memory runs out, nothing is written.
 #[tactic(auto, unfolding(crate::specs::Replies::fault_text))]
 pub fn write_fault(fault: Fault, out: &mut Vec<u8>) -> Result<(), AllocError>
-    ensures ok { OnOk result (out.new.items ≡ out.old.items ++ fault_text fault) }
-    ensures err { OnErr result (out.new.items ≡ out.old.items) }
+    ensures ok { AddsAtEnd result out.old out.new (fault_text fault) }
     ensures full { OnErr result
         (vec_capacity out.old < vec_len out.old + length (fault_text fault)) }
 {

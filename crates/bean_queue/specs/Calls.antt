@@ -42,22 +42,6 @@ pub record CanReserve (key : Key) (s : QueueState) : Type 0 where
 
 -- What is done
 
--- this is so now, or where memory was refused what was so; what was kept stays
-pub record DraftsState {X E : Type 0} (old new : Draft X) (state : X) (result : Result Unit E) : Type 0 where
-  pub now : OnOk result (new.now ≡ state)
-  pub err : OnErr result (new.now ≡ old.now)
-  pub before : new.before ≡ old.before
-
--- what is so now is kept
-pub record KeepsDraft {X : Type 0} (old new : Draft X) : Type 0 where
-  pub now : new.now ≡ old.now
-  pub before : new.before ≡ old.now
-
--- what was kept is so now
-pub record TakesDraftBack {X : Type 0} (old new : Draft X) : Type 0 where
-  pub now : new.now ≡ old.before
-  pub before : new.before ≡ old.before
-
 -- the state and the reply are the row's; what was kept stays
 pub record DraftsRow {E : Type 0} (old new : Draft QueueState) (row : Row) (result : Result Reply E) : Type 0 where
   pub state : OnOk result (new.now ≡ row.state)

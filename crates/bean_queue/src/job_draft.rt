@@ -1,7 +1,7 @@
 ghost use Rattle.std.specs.Prelude.{◌≡◌, ◌^◌, [], IsSome};
 ghost use Rattle.job_store.specs.Entries.{Rising, with_value, altered, without};
 ghost use Rattle.job_store.specs.States.{marked, marked_at};
-ghost use Rattle.bean_queue.specs.Calls.{DraftsState, KeepsDraft, TakesDraftBack};
+ghost use Rattle.session_store.specs.Drafts.{DraftsState, IsKept, KeepsDraft, TakesDraftBack};
 
 use job_store::{Job, JobMap, Mark, State};
 use std::alloc::{AllocError, Global};
@@ -28,8 +28,7 @@ impl<M: JobMap> Model for JobDraft<M> {
 impl<M: JobMap> JobDraft<M> {
     /// No jobs.
     pub fn new(alloc: Global) -> Self
-        ensures now { result.now ≡ [] }
-        ensures before { result.before ≡ [] }
+        ensures { IsKept result [] }
     {
         let mut jobs = M::new(alloc);
         jobs.begin();
@@ -77,8 +76,7 @@ impl<M: JobMap> JobDraft<M> {
 
     /// Keeps all changes, and takes out the job at an id. That can't be taken back.
     pub fn remove_for_good(&mut self, id: u64)
-        ensures now { self.new.now ≡ without id self.old.now }
-        ensures before { self.new.before ≡ without id self.old.now }
+        ensures { IsKept self.new (without id self.old.now) }
     {
         self.jobs.remove(id);
         self.jobs.begin();

@@ -1,9 +1,9 @@
-ghost use Rattle.std.specs.Prelude.{◌≡◌, ◌^◌, IsSome, IfOk, OnErr, OnOk};
+ghost use Rattle.std.specs.Prelude.{◌≡◌, ◌^◌, IsSome, IfOk, OnOk};
 ghost use Rattle.job_store.specs.Entries.{Rising, value_at, altered};
+ghost use Rattle.session_store.specs.Drafts.{DraftsState, IsKept, KeepsDraft, TakesDraftBack};
 ghost use Rattle.session_store.specs.Sessions.{session_of, known};
 ghost use Rattle.bean_queue.specs.Queue.{fresh, with_sessions};
 ghost use Rattle.bean_queue.specs.Effects.{with_ask_noted, called};
-ghost use Rattle.bean_queue.specs.Calls.{DraftsState, KeepsDraft, TakesDraftBack};
 
 mod held;
 mod kick;
@@ -61,8 +61,7 @@ impl<M: JobMap> Model for Logic<M> {
 impl<M: JobMap> Logic<M> {
     /// A new queue.
     pub fn new(alloc: Global) -> Self
-        ensures now { result.now ≡ fresh }
-        ensures before { result.before ≡ fresh }
+        ensures { IsKept result fresh }
     {
         let counters = Counters {
             now: 0,
@@ -104,11 +103,9 @@ impl<M: JobMap> Logic<M> {
 
     /// Makes a session, or ends its wait, and tells its role.
     fn make_known(&mut self, session: u32) -> Result<Role, AllocError>
-        ensures now { OnOk result (self.new.now
-            ≡ with_sessions self.old.now (known session self.old.now.sessions)) }
+        ensures drafts { DraftsState self.old self.new
+            (with_sessions self.old.now (known session self.old.now.sessions)) result }
         ensures role { IfOk result (λ role. role ≡ (session_of session self.new.now.sessions).role) }
-        ensures err { OnErr result (self.new.now ≡ self.old.now) }
-        ensures before { self.new.before ≡ self.old.before }
     {
         self.sessions.know(session)
     }

@@ -1,4 +1,5 @@
-ghost use Rattle.std.specs.Prelude.{◌≡◌, ◌++◌, ◌∷◌, [], IfOk, OnOk, OnErr, true};
+ghost use Rattle.std.specs.Prelude.{◌≡◌, ◌++◌, ◌∷◌, [], IfOk, true};
+ghost use Rattle.object.specs.Results.{Becomes};
 
 use crate::name::Name;
 use object::Value;
@@ -56,8 +57,7 @@ impl Names {
 
     /// Puts one more at the end.
     pub fn push(&mut self, name: Name) -> Result<(), AllocError>
-        ensures ok { OnOk result (self.new ≡ self.old ++ name ∷ []) }
-        ensures err { OnErr result (self.new ≡ self.old) }
+        ensures ok { Becomes result self.old self.new (self.old ++ name ∷ []) }
     {
         self.items.push(name)?;
         Ok(())

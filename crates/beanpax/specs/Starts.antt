@@ -14,7 +14,8 @@ use Rattle.beanpax.specs.declared.starting.Started.{Started}
 -- In the hall of these members the commands of the log took effect, in their order, and then one Close for each session that they leave
 -- open, and nothing else, nor does anything wait to take effect; so many of them the hall and the journal count; and all of these are
 -- kept in the log, if it held what was read of it.
-pub record IsStarted {W : Type 0} (rules : Rules QueueState Op Reply) (contents : W → Option (List ℕ)) (members : List ℕ) (opened : OpenedLog W) (started : Started W) : Type 0 where
+pub record IsStarted {W : Type 0} (rules : Rules QueueState Op Reply) (contents : W → Option (List ℕ)) (members : List ℕ)
+    (opened : OpenedLog W) (started : Started W) : Type 0 where
   pub closes : List (Command Op)
   pub ends : EndsAll opened.commands.items closes
   pub told : HasTold rules members started.hall (opened.commands.items ++ closes)

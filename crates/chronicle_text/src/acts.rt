@@ -1,4 +1,5 @@
-ghost use Rattle.std.specs.Prelude.{◌≡◌, ◌++◌, ◌∷◌, [], take, vec_len, codes, decimal, OnOk};
+ghost use Rattle.std.specs.Prelude.{◌∷◌, [], codes, decimal, OnOk};
+ghost use Rattle.object.specs.Results.{WritesAtEnd};
 ghost use Rattle.bean_words.specs.Names.{IsName};
 ghost use Rattle.chronicle_text.specs.Acts.{op_words, act_words};
 ghost use Rattle.chronicle_text.specs.Lines.{spaced, body_word};
@@ -13,8 +14,7 @@ use std::alloc::AllocError;
 /// Writes the words for an act at the end, each after a space. Where memory runs out, a part of them may stand there.
 #[tactic(auto, unfolding(crate::specs::Acts::act_words))]
 pub fn append_act(act: &Act<Op>, out: &mut Vec<u8>) -> Result<(), AllocError>
-    ensures ok { OnOk result (out.new.items ≡ out.old.items ++ spaced (act_words act.now)) }
-    ensures front { take (vec_len out.old) out.new.items ≡ out.old.items }
+    ensures ok { WritesAtEnd result out.old out.new (spaced (act_words act.now)) }
     ensures value { OnOk result (IsActValue act.now) }
 {
     match act {
@@ -27,8 +27,7 @@ pub fn append_act(act: &Act<Op>, out: &mut Vec<u8>) -> Result<(), AllocError>
 /// Writes the words for an operation at the end, each after a space. Where memory runs out, a part of them may stand there.
 #[tactic(auto, unfolding(crate::specs::Acts::op_words))]
 fn append_op(op: &Op, out: &mut Vec<u8>) -> Result<(), AllocError>
-    ensures ok { OnOk result (out.new.items ≡ out.old.items ++ spaced (op_words op.now)) }
-    ensures front { take (vec_len out.old) out.new.items ≡ out.old.items }
+    ensures ok { WritesAtEnd result out.old out.new (spaced (op_words op.now)) }
     ensures value { OnOk result (IsOpValue op.now) }
 {
     match op {
@@ -74,9 +73,8 @@ fn append_put(
     body: &Body,
     out: &mut Vec<u8>,
 ) -> Result<(), AllocError>
-    ensures ok { OnOk result (out.new.items ≡ out.old.items ++
-        spaced (codes "put" ∷ decimal pri ∷ decimal delay ∷ decimal ttr ∷ body_word body.now ∷ [])) }
-    ensures front { take (vec_len out.old) out.new.items ≡ out.old.items }
+    ensures ok { WritesAtEnd result out.old out.new (spaced
+        (codes "put" ∷ decimal pri ∷ decimal delay ∷ decimal ttr ∷ body_word body.now ∷ [])) }
     ensures value { OnOk result (IsBytes body.now) }
 {
     append_count(b"put", pri as u64, out)?;
@@ -87,9 +85,8 @@ fn append_put(
 
 /// A release, with the job's new priority and delay.
 fn append_release(id: u64, pri: u32, delay: u32, out: &mut Vec<u8>) -> Result<(), AllocError>
-    ensures ok { OnOk result (out.new.items ≡ out.old.items ++
-        spaced (codes "release" ∷ decimal id ∷ decimal pri ∷ decimal delay ∷ [])) }
-    ensures front { take (vec_len out.old) out.new.items ≡ out.old.items }
+    ensures ok { WritesAtEnd result out.old out.new
+        (spaced (codes "release" ∷ decimal id ∷ decimal pri ∷ decimal delay ∷ [])) }
 {
     append_count(b"release", id, out)?;
     append_number(pri as u64, out)?;
@@ -98,9 +95,8 @@ fn append_release(id: u64, pri: u32, delay: u32, out: &mut Vec<u8>) -> Result<()
 
 /// A bury, with the job's new priority.
 fn append_bury(id: u64, pri: u32, out: &mut Vec<u8>) -> Result<(), AllocError>
-    ensures ok { OnOk result
-        (out.new.items ≡ out.old.items ++ spaced (codes "bury" ∷ decimal id ∷ decimal pri ∷ [])) }
-    ensures front { take (vec_len out.old) out.new.items ≡ out.old.items }
+    ensures ok { WritesAtEnd result out.old out.new
+        (spaced (codes "bury" ∷ decimal id ∷ decimal pri ∷ [])) }
 {
     append_count(b"bury", id, out)?;
     append_number(pri as u64, out)
@@ -108,9 +104,8 @@ fn append_bury(id: u64, pri: u32, out: &mut Vec<u8>) -> Result<(), AllocError>
 
 /// A pause of a tube, with its seconds.
 fn append_pause(tube: &Name, seconds: u32, out: &mut Vec<u8>) -> Result<(), AllocError>
-    ensures ok { OnOk result (out.new.items ≡ out.old.items ++
-        spaced (codes "pause-tube" ∷ tube.now ∷ decimal seconds ∷ [])) }
-    ensures front { take (vec_len out.old) out.new.items ≡ out.old.items }
+    ensures ok { WritesAtEnd result out.old out.new
+        (spaced (codes "pause-tube" ∷ tube.now ∷ decimal seconds ∷ [])) }
     ensures value { OnOk result (IsName tube.now) }
 {
     append_two(b"pause-tube", tube.as_slice(), out)?;

@@ -1,4 +1,5 @@
-ghost use Rattle.std.specs.Prelude.{◌≡◌, ◌++◌, take, vec_len, IfOk, OnOk};
+ghost use Rattle.std.specs.Prelude.{IfOk};
+ghost use Rattle.object.specs.Results.{WritesAtEnd};
 ghost use Rattle.chronicle_text.specs.Entries.{entry_line, Says};
 
 use crate::lines::{
@@ -34,8 +35,7 @@ pub enum Entry {
 
 // Writes the line that says this at the end. Where memory runs out, a part of it may stand there.
 fn append_entry(entry: &Entry, out: &mut Vec<u8>) -> Result<(), AllocError>
-    ensures ok { OnOk result (out.new.items ≡ out.old.items ++ entry_line entry.now) }
-    ensures front { take (vec_len out.old) out.new.items ≡ out.old.items }
+    ensures ok { WritesAtEnd result out.old out.new (entry_line entry.now) }
 {
     match entry {
         Entry::Version(version) => append_version(*version, out),

@@ -1,4 +1,5 @@
-ghost use Rattle.std.specs.Prelude.{◌≡◌, ◌++◌, ◌∷◌, [], take, vec_len, codes, OnOk};
+ghost use Rattle.std.specs.Prelude.{◌∷◌, [], codes, OnOk};
+ghost use Rattle.object.specs.Results.{WritesAtEnd};
 ghost use Rattle.chronicle_text.specs.Lines.{spaced, body_word};
 ghost use Rattle.chronicle_text.specs.Replies.{reply_words};
 ghost use Rattle.chronicle_text.specs.Values.{IsReplyValue};
@@ -13,8 +14,7 @@ use std::alloc::AllocError;
 /// Writes the words for a reply at the end, each after a space. Where memory runs out, a part of them may stand there.
 #[tactic(auto, unfolding(crate::specs::Replies::reply_words))]
 pub fn append_reply(reply: &Reply, out: &mut Vec<u8>) -> Result<(), AllocError>
-    ensures ok { OnOk result (out.new.items ≡ out.old.items ++ spaced (reply_words reply.now)) }
-    ensures front { take (vec_len out.old) out.new.items ≡ out.old.items }
+    ensures ok { WritesAtEnd result out.old out.new (spaced (reply_words reply.now)) }
     ensures value { OnOk result (IsReplyValue reply.now) }
 {
     match reply {
@@ -42,8 +42,7 @@ pub fn append_reply(reply: &Reply, out: &mut Vec<u8>) -> Result<(), AllocError>
 
 /// A list of tubes.
 fn append_tubes(names: &[Name], out: &mut Vec<u8>) -> Result<(), AllocError>
-    ensures ok { OnOk result (out.new.items ≡ out.old.items ++ spaced (codes "OK" ∷ names.now)) }
-    ensures front { take (vec_len out.old) out.new.items ≡ out.old.items }
+    ensures ok { WritesAtEnd result out.old out.new (spaced (codes "OK" ∷ names.now)) }
     ensures value { OnOk result (AllByRecursion IsName names.now) }
 {
     append_word(b"OK", out)?;
@@ -52,8 +51,8 @@ fn append_tubes(names: &[Name], out: &mut Vec<u8>) -> Result<(), AllocError>
 
 /// A report.
 fn append_report(text: &Body, out: &mut Vec<u8>) -> Result<(), AllocError>
-    ensures ok { OnOk result (out.new.items ≡ out.old.items ++ spaced (codes "DATA" ∷ body_word text.now ∷ [])) }
-    ensures front { take (vec_len out.old) out.new.items ≡ out.old.items }
+    ensures ok { WritesAtEnd result out.old out.new
+        (spaced (codes "DATA" ∷ body_word text.now ∷ [])) }
     ensures value { OnOk result (IsBytes text.now) }
 {
     append_word(b"DATA", out)?;

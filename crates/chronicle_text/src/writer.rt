@@ -1,5 +1,6 @@
-ghost use Rattle.std.specs.Prelude.{◌≡◌, ◌++◌, take, vec_len, OnOk, OnErr};
+ghost use Rattle.std.specs.Prelude.{OnOk};
 ghost use Rattle.std.specs.List.{AllByRecursion, flat_map};
+ghost use Rattle.object.specs.Results.{AddsAtEnd, WritesAtEnd};
 ghost use Rattle.recorder.specs.Chronicles.{IsChronicle};
 ghost use Rattle.chronicle_text.specs.Dump.{answer_line, order_line, happening_line, head_lines, dump_text};
 ghost use Rattle.chronicle_text.specs.Happenings.{happenings};
@@ -29,8 +30,7 @@ pub trait WriteText {
 impl WriteText for Chronicle<Op, Reply> {
     /// Writes the text of the chronicle of a queue at the end. Where memory runs out, nothing is written.
     fn write_text(&self, out: &mut Vec<u8>) -> Result<(), AllocError>
-        ensures ok { OnOk result (out.new.items ≡ out.old.items ++ dump_text self.now) }
-        ensures err { OnErr result (out.new.items ≡ out.old.items) }
+        ensures ok { AddsAtEnd result out.old out.new (dump_text self.now) }
         ensures value { OnOk result (IsChronicleValue self.now) }
     {
         let len = out.len();
@@ -45,8 +45,7 @@ impl WriteText for Chronicle<Op, Reply> {
 /// Writes the text of a chronicle at the end. Where memory runs out, a part of it may stand there.
 #[tactic(auto, unfolding(crate::specs::Dump::dump_text))]
 fn append_dump(chronicle: &Chronicle<Op, Reply>, out: &mut Vec<u8>) -> Result<(), AllocError>
-    ensures ok { OnOk result (out.new.items ≡ out.old.items ++ dump_text chronicle.now) }
-    ensures front { take (vec_len out.old) out.new.items ≡ out.old.items }
+    ensures ok { WritesAtEnd result out.old out.new (dump_text chronicle.now) }
     ensures value { OnOk result (IsChronicleValue chronicle.now) }
 {
     append_head(chronicle.members(), out)?;
@@ -57,8 +56,7 @@ fn append_dump(chronicle: &Chronicle<Op, Reply>, out: &mut Vec<u8>) -> Result<()
 
 /// Writes the lines before what happened at the end. Where memory runs out, a part of them may stand there.
 fn append_head(members: Members, out: &mut Vec<u8>) -> Result<(), AllocError>
-    ensures ok { OnOk result (out.new.items ≡ out.old.items ++ text_of_lines (head_lines members)) }
-    ensures front { take (vec_len out.old) out.new.items ≡ out.old.items }
+    ensures ok { WritesAtEnd result out.old out.new (text_of_lines (head_lines members)) }
 {
     let version = Version::of(members);
     append_version(version, out)?;
@@ -76,9 +74,8 @@ fn append_happenings(
     out: &mut Vec<u8>,
 ) -> Result<(), AllocError>
     requires { IsTimeline (record { submitted = submitted.now; answers = answers.now }) }
-    ensures ok { OnOk result (out.new.items ≡ out.old.items ++
-        flat_map happening_line (happenings submitted.now answers.now)) }
-    ensures front { take (vec_len out.old) out.new.items ≡ out.old.items }
+    ensures ok { WritesAtEnd result out.old out.new
+        (flat_map happening_line (happenings submitted.now answers.now)) }
     ensures submitted { OnOk result
         (AllByRecursion (λ (s : Submission Op). IsCommandValue s.command) submitted.now) }
     ensures answered { OnOk result (AllByRecursion IsAnswerValue answers.now) }
@@ -94,8 +91,7 @@ fn append_happenings(
 
 /// Writes answers at the end, a line each. Where memory runs out, a part of them may stand there.
 fn append_answers(answers: &[Answer<Reply>], out: &mut Vec<u8>) -> Result<(), AllocError>
-    ensures ok { OnOk result (out.new.items ≡ out.old.items ++ flat_map answer_line answers.now) }
-    ensures front { take (vec_len out.old) out.new.items ≡ out.old.items }
+    ensures ok { WritesAtEnd result out.old out.new (flat_map answer_line answers.now) }
     ensures value { OnOk result (AllByRecursion IsAnswerValue answers.now) }
 {
     for answer in answers {
@@ -106,8 +102,7 @@ fn append_answers(answers: &[Answer<Reply>], out: &mut Vec<u8>) -> Result<(), Al
 
 /// Writes the commands that counted at the end, a line each. Where memory runs out, a part of them may stand there.
 fn append_order(order: &[Key], out: &mut Vec<u8>) -> Result<(), AllocError>
-    ensures ok { OnOk result (out.new.items ≡ out.old.items ++ flat_map order_line order.now) }
-    ensures front { take (vec_len out.old) out.new.items ≡ out.old.items }
+    ensures ok { WritesAtEnd result out.old out.new (flat_map order_line order.now) }
     ensures value { OnOk result (AllByRecursion IsKeyValue order.now) }
 {
     for key in order {

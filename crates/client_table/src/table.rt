@@ -1,6 +1,7 @@
-ghost use Rattle.std.specs.Prelude.{◌≡◌, ◌∷◌, [], ◌+◌, ◌<◌, ◌^◌, Some, length, IsSome, IfOk, OnOk, OnErr};
+ghost use Rattle.std.specs.Prelude.{◌≡◌, ◌∷◌, [], ◌+◌, ◌<◌, ◌^◌, Some, length, IsSome, IfOk};
 ghost use Rattle.std.specs.Option.{option_copied};
 ghost use Rattle.std.specs.FinMap.{get, insert, remove};
+ghost use Rattle.object.specs.Results.{Becomes};
 ghost use Rattle.client_table.specs.Clients.{blank_summary, new_client, with_command, with_replies, with_effect, told};
 
 use crate::client::Client;
@@ -84,9 +85,8 @@ impl<Op: Value, Reply: Value> ClientTable<Op, Reply> {
 
     /// A session is there that has handed in nothing.
     pub fn open(&mut self, session: u32) -> Result<(), AllocError>
-        ensures ok { OnOk result (self.new
-            ≡ record self.old { clients = insert self.old.clients session new_client }) }
-        ensures err { OnErr result (self.new ≡ self.old) }
+        ensures ok { Becomes result self.old self.new
+            (record self.old { clients = insert self.old.clients session new_client }) }
     {
         self.clients.insert(session, Client::new())?;
         Ok(())

@@ -1,4 +1,5 @@
-ghost use Rattle.std.specs.Prelude.{◌≡◌, ◌++◌, ◌↔◌, IfOk, OnOk, OnErr, IsTrue};
+ghost use Rattle.std.specs.Prelude.{◌≡◌, ◌↔◌, IfOk, IsTrue};
+ghost use Rattle.object.specs.Results.{AddsAtEnd};
 ghost use Rattle.command_log.specs.Lines.{Heads};
 ghost use Rattle.command_log.specs.Reading.{AgreesWithHead};
 ghost use Rattle.command_log.specs.Spelling.{told_head};
@@ -11,8 +12,7 @@ use std::alloc::{AllocError, Global};
 /// Writes the head of a log at the end. Where memory runs out, nothing is written.
 #[tactic(auto, unfolding(crate::specs::Text::head_line, chronicle_text::specs::Lines::line))]
 pub fn write_head(members: Members, out: &mut Vec<u8>) -> Result<(), AllocError>
-    ensures ok { OnOk result (out.new.items ≡ out.old.items ++ head_line members) }
-    ensures err { OnErr result (out.new.items ≡ out.old.items) }
+    ensures ok { AddsAtEnd result out.old out.new (head_line members) }
 {
     let mut line = Vec::new(*out.allocator());
     line.extend_from_slice(b"beanpax-log 1")?;

@@ -1,4 +1,5 @@
-ghost use Rattle.std.specs.Prelude.{◌≡◌, ◌++◌, take, vec_len, IfOk, IfErr, IsErrOf, OnOk, OnErr};
+ghost use Rattle.std.specs.Prelude.{◌≡◌, ◌++◌, IfOk, IfErr, IsErrOf, OnOk};
+ghost use Rattle.object.specs.Results.{AddsAtEnd};
 ghost use Rattle.chronicle_text.specs.Values.{IsCommandValue};
 ghost use Rattle.command_log.specs.Faults.{IsWriteFault};
 ghost use Rattle.command_log.specs.Lines.{IsLogged, HasClientBody, HoldsCommand, TellsCommand};
@@ -19,8 +20,7 @@ pub const MAX_LINE: usize = 131_200;
 /// Writes the line of a command at the end. At a fault nothing is written. No command of a client is too long.
 #[tactic(auto, using(crate::proofs::Sizes::client_short))]
 pub fn write_command(command: &Command<Op>, out: &mut Vec<u8>) -> Result<(), WriteFault>
-    ensures ok { OnOk result (out.new.items ≡ out.old.items ++ line_of_command command.now) }
-    ensures err { OnErr result (out.new.items ≡ out.old.items) }
+    ensures ok { AddsAtEnd result out.old out.new (line_of_command command.now) }
     ensures logged { OnOk result (IsLogged command.now) }
     ensures fault { IfErr result (IsWriteFault command.now) }
     ensures fits { HasClientBody command.now.act → IsErrOf result WriteFault.TooLong → ⊥ }

@@ -48,7 +48,8 @@ module _ {X : Type 0} (xs : List X) (n : ℕ) (x : X) (within : n < length xs) (
 -- the marks of items, each of one session
 module _ {X : Type 0} (key : X → ℕ) (m k : List Bool) (xs ys : List X) (sofar : with_marks m (map key xs) ≡ Some k) where
   pub marked_more : (j : List Bool) (zs : List X) → zs ≡ xs ++ ys → with_marks k (map key ys) ≡ Some j → with_marks m (map key zs) ≡ Some j
-  marked_more j zs is next = ap (λ l. with_marks m (map key l)) is ∙ ap (with_marks m) (map-append key xs ys) ∙ marked_on m k (map key xs) (map key ys) sofar ∙ next
+  marked_more j zs is next = ap (λ l. with_marks m (map key l)) is ∙ ap (with_marks m) (map-append key xs ys) ∙
+      marked_on m k (map key xs) (map key ys) sofar ∙ next
 
   pub marked_none : (zs more : List X) → zs ≡ (xs ++ ys) ++ more → with_marks k (map key ys) ≡ None → with_marks m (map key zs) ≡ None
   marked_none zs more is stops =

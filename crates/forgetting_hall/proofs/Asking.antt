@@ -1,5 +1,6 @@
 -- What is handed in to the hall is what the laws speak of.
-use Rattle.std.proofs.Common.{◌≡◌, ◌≢◌, ◌<◌, ◌≤◌, ◌+◌, ◌^◌, ◌==◌, ◌&&◌, ⊎_elim, ℕ, zero, suc, Bool, true, false, cond, not, List, [], ◌∷◌, length, Option, Some, None}
+use Rattle.std.proofs.Common.{◌≡◌, ◌≢◌, ◌<◌, ◌≤◌, ◌+◌, ◌^◌, ◌==◌, ◌&&◌, ⊎_elim, ℕ, zero, suc, Bool, true, false, cond}
+use Rattle.std.proofs.Common.{not, List, [], ◌∷◌, length, Option, Some, None}
 use Rattle.std.proofs.Common.{refl, sym, ap, ◌∙◌, subst, arith}
 use Rattle.std.specs.Prelude.{is_some, nat_le, nat_lt, slice_index_or, slice_set}
 use Rattle.std.specs.FinMap.{get}
@@ -31,7 +32,8 @@ use Rattle.client_table.specs.declared.client.Client.{Client}
 use Rattle.forgetting_hall.specs.Clients.{IsNextOf, IsLastOf}
 use Rattle.forgetting_hall.specs.Halls.{ForgettingState, IsForgettingHall, IsCounted, FollowsIn, rest_of_hall}
 use Rattle.forgetting_hall.specs.Handing.{asked_lean, last_of, last_of_client, reply_of, reply_of_client, last_number_of, next_of, second_of}
-use Rattle.forgetting_hall.specs.Refusing.{has_all_events, is_session, keeps_waiting, is_behind_last, refusal_of_submit, refusal_of_resubmit, refusal_of_tick, refusal_of_keyed}
+use Rattle.forgetting_hall.specs.Refusing.{has_all_events, is_session, keeps_waiting, is_behind_last, refusal_of_submit}
+use Rattle.forgetting_hall.specs.Refusing.{refusal_of_resubmit, refusal_of_tick, refusal_of_keyed}
 use Rattle.forgetting_hall.specs.Rests.{HallRest, ShowsWorld, FollowsEvent, IsReplyInOrder, acted_rest, handed_in}
 use Rattle.forgetting_hall.specs.Shown.{with_object, turn_held, acted_net_held}
 use Rattle.forgetting_hall.proofs.Keeping.{all_nodes}
@@ -94,7 +96,8 @@ module _ {O Op Reply : Type 0} (rules : Rules O Op Reply) (k : LeanState Op O) (
     pub asked_net : states (asked_lean rules k n c) ≡ acted_net_held rules (states k) (object_of rules k) n (Request c)
     asked_net = net_if (is_later c.key (object_of rules k n).latest) (turn_held rules (states k) (object_of rules k) n (Request c)) asked_turn
 
-    pub asked_objects : object_of rules (asked_lean rules k n c) ≡ with_object (object_of rules k) n (turn_held rules (states k) (object_of rules k) n (Request c)).state.object
+    pub asked_objects : object_of rules (asked_lean rules k n c) ≡ with_object (object_of rules k) n
+        (turn_held rules (states k) (object_of rules k) n (Request c)).state.object
     asked_objects = objects_if (is_later c.key (object_of rules k n).latest) (turn_held rules (states k) (object_of rules k) n (Request c)) asked_turn
 
 module _ {O Op Reply : Type 0} (rules : Rules O Op Reply) (h : ForgettingState Op O Reply) (n : ℕ) (c : Command Op) where
@@ -189,7 +192,8 @@ module _ {O Op Reply : Type 0} (h : ForgettingState Op O Reply) where
   next_above session client e =
       let same : last_number_of h session ≡ number_of_last client.last = ap (λ o. number_of_last (last_of_client o)) e in omega (arith, same)
 
-  next_from : (session : ℕ) (o : Option (Client Op Reply)) → get h.summary.clients session ≡ o → is_some o ≡ true → (act : Act Op) → IsNextOf h.summary (next_of h session act)
+  next_from : (session : ℕ) (o : Option (Client Op Reply)) → get h.summary.clients session ≡ o → is_some o ≡ true → (act : Act Op) →
+      IsNextOf h.summary (next_of h session act)
   next_from session None e i act = absurd (cc)
   next_from session (Some client) e i act = record {
     client = client;
@@ -199,7 +203,8 @@ module _ {O Op Reply : Type 0} (h : ForgettingState Op O Reply) where
 
   module _ (session : ℕ) (act : Act Op) (n : ℕ) (none : refusal_of_submit h session act n ≡ None) where
     left : (is_member h.network.members n ≡ true) × ((not (is_tick act) && is_session h session) ≡ true) × (has_all_events h ≡ false)
-    left = submit_left (is_member h.network.members n) (not (is_tick act) && is_session h session) (keeps_waiting (get h.summary.clients session) act) (has_all_events h) none
+    left = submit_left (is_member h.network.members n) (not (is_tick act) && is_session h session)
+        (keeps_waiting (get h.summary.clients session) act) (has_all_events h) none
 
     pub submit_member : is_member h.network.members n ≡ true
     submit_member = left.0
@@ -213,7 +218,8 @@ module _ {O Op Reply : Type 0} (h : ForgettingState Op O Reply) where
     pub submit_next : IsNextOf h.summary (next_of h session act)
     submit_next = next_from session (get h.summary.clients session) refl there.1 act
 
-    may : (a : Act Op) → not (is_tick a) ≡ true → (number : ℕ) → 0 < number → number ≤ 2 ^ 62 → IsCommand {Op = Op} (record { key = record { session = session; number = number }; act = a })
+    may : (a : Act Op) → not (is_tick a) ≡ true → (number : ℕ) → 0 < number → number ≤ 2 ^ 62 →
+        IsCommand {Op = Op} (record { key = record { session = session; number = number }; act = a })
     may (Do op) e number low high = record { above = low; within = high; allowed = not_clock session there.0 }
     may Close e number low high = record { above = low; within = high; allowed = not_clock session there.0 }
     may Tick e number low high = absurd (cc)
@@ -296,8 +302,10 @@ module _ {O Op Reply : Type 0} (h : ForgettingState Op O Reply) (c : Command Op)
   at_keyed : (is_member h.network.members n ≡ true) × (is_behind_last h c.key ≡ true) × (has_all_events h ≡ false)
   at_keyed = submit_left (is_member h.network.members n) (is_behind_last h c.key) false (has_all_events h) none
 
-  parts : (is_some (get h.summary.clients c.key.session) ≡ true) × (nat_lt (last_number_of h c.key.session) c.key.number ≡ true) × (nat_le c.key.number (2 ^ 61) ≡ true)
-  parts = behind_parts (is_some (get h.summary.clients c.key.session)) (nat_lt (last_number_of h c.key.session) c.key.number) (nat_le c.key.number (2 ^ 61)) at_keyed.1
+  parts : (is_some (get h.summary.clients c.key.session) ≡ true) × (nat_lt (last_number_of h c.key.session) c.key.number ≡ true) ×
+      (nat_le c.key.number (2 ^ 61) ≡ true)
+  parts = behind_parts (is_some (get h.summary.clients c.key.session)) (nat_lt (last_number_of h c.key.session) c.key.number)
+      (nat_le c.key.number (2 ^ 61)) at_keyed.1
 
   pub keyed_member : is_member h.network.members n ≡ true
   keyed_member = at_keyed.0

@@ -89,7 +89,8 @@ module _ {Op Reply : Type 0} where
   }
 
   -- answers were given
-  counted_replies : (s : Summary Op Reply) (opened taken : ℕ) → IsCounted s opened taken → (given : List (Answer Reply)) → IsCounted (with_replies given s) opened taken
+  counted_replies : (s : Summary Op Reply) (opened taken : ℕ) → IsCounted s opened taken → (given : List (Answer Reply)) →
+      IsCounted (with_replies given s) opened taken
   counted_replies s opened taken is given = record {
     clock = subst (λ o. IsSome o) (sym (get_each (λ _ x. replied given x) s.clients 0)) (still_some (replied given) (get s.clients 0) is.clock);
     submitted = is.submitted;

@@ -1,5 +1,6 @@
 -- What a call makes of the hall is what the world's event makes of what it keeps.
-use Rattle.std.proofs.Common.{◌≡◌, ◌<◌, ◌≤◌, ◌+◌, ◌^◌, ℕ, Bool, true, false, cond, not, List, length, Option, Some, None, ◌⊎◌, inl, inr, ⊎_elim, refl, sym, ap, ◌∙◌, subst, arith}
+use Rattle.std.proofs.Common.{◌≡◌, ◌<◌, ◌≤◌, ◌+◌, ◌^◌, ℕ, Bool, true, false, cond, not, List, length, Option, Some}
+use Rattle.std.proofs.Common.{None, ◌⊎◌, inl, inr, ⊎_elim, refl, sym, ap, ◌∙◌, subst, arith}
 use Rattle.std.specs.Prelude.{nat_le}
 use Rattle.std.proofs.lemmas.Bool.Decides.{nat_tests}
 use Rattle.object.specs.Happenings.{is_submitted}
@@ -24,14 +25,16 @@ use Rattle.agreement.specs.Worlds.{World}
 use Rattle.agreement.specs.declared.event.Event.{Event}
 use Rattle.agreement.specs.declared.event.Event.TheVariants.{Deliver}
 use Rattle.hall.specs.declared.error.HallError.TheVariants.{NoSuchNode, Full}
-use Rattle.lean_network.specs.LeanNetworks.{LeanState, states, lean_node_of, lean_mail_of, lean_turn_of, lean_without_front, acted_lean, forgotten_lean, IsLeanDelivered}
+use Rattle.lean_network.specs.LeanNetworks.{LeanState, states, lean_node_of, lean_mail_of, lean_turn_of}
+use Rattle.lean_network.specs.LeanNetworks.{lean_without_front, acted_lean, forgotten_lean, IsLeanDelivered}
 use Rattle.lean_network.specs.Receipts.{receipt_of, receipt_of_rest}
 use Rattle.lean_network.proofs.States.{state_at, states_forgotten, kept_object, delivered_object, delivered_states}
 use Rattle.client_table.specs.Clients.{Summary, with_replies, with_effect}
 use Rattle.forgetting_hall.specs.Gathered.{Gathering}
 use Rattle.forgetting_hall.specs.Halls.{ForgettingState, IsForgettingHall, FollowsIn, FollowsLeft, ShowsStill, IsCounted, IsLeastOut, rest_of_hall, is_received}
 use Rattle.forgetting_hall.specs.Refusing.{refusal_of_event, has_all_events}
-use Rattle.forgetting_hall.specs.Rests.{HallRest, ShowsWorld, FollowsEvent, FollowsLetterOf, IsGoingOn, IsReceivedRest, fresh_answers, done_rest, forgotten_rest, lost_rest}
+use Rattle.forgetting_hall.specs.Rests.{HallRest, ShowsWorld, FollowsEvent, FollowsLetterOf, IsGoingOn, IsReceivedRest}
+use Rattle.forgetting_hall.specs.Rests.{fresh_answers, done_rest, forgotten_rest, lost_rest}
 use Rattle.forgetting_hall.proofs.Counting.{room_for}
 use Rattle.forgetting_hall.proofs.Forget.{forgotten_same}
 use Rattle.forgetting_hall.proofs.Keeping.{all_nodes, lost_still}
@@ -58,7 +61,8 @@ abbrev pub Next : {O Op Reply : Type 0} → Rules O Op Reply → Type 0
 Next {O} {Op} {Reply} rules = (w v : World Op Reply) (e : Event Op) → IsWorld rules w → Step rules w e v → w.taken < most_events → IsWorld rules v
 
 abbrev pub Known : {O Op Reply : Type 0} → Rules O Op Reply → Type 0
-Known {O} {Op} {Reply} rules = (w : World Op Reply) → IsWorld rules w → (a : Answer Reply) → In a w.happenings.answers → is_submitted a.to w.happenings.submitted ≡ true
+Known {O} {Op} {Reply} rules = (w : World Op Reply) → IsWorld rules w → (a : Answer Reply) → In a w.happenings.answers →
+    is_submitted a.to w.happenings.submitted ≡ true
 
 module _ {O Op Reply : Type 0} (rules : Rules O Op Reply) (h : ForgettingState Op O Reply) (n : ℕ) where
   -- what a node does by itself
@@ -73,7 +77,8 @@ module _ {O Op Reply : Type 0} (rules : Rules O Op Reply) (h : ForgettingState O
 
     -- its answers can be counted
     pub room_to_tell : Next rules → Known rules → IsForgettingHall rules h → h.taken < most_events
-        → h.summary.answered + length (fresh_answers h.reach (outcome_held (lean_node_of rules h.network n) d) (lean_turn_of rules h.network n d).answers) < 2 ^ 64
+        → h.summary.answered + length (fresh_answers h.reach (outcome_held (lean_node_of rules h.network n) d) (lean_turn_of rules h.network
+        n d).answers) < 2 ^ 64
     room_to_tell next known is room =
         let f = deed_follows h.gathering is.shown.0 is.shown.1 is.shown.2 in
         let world = next is.shown.0 f.0 (event_of n d) is.shown.1 f.1 (subst (λ t. t < most_events) is.shown.2.taken room) in
@@ -83,13 +88,15 @@ module _ {O Op Reply : Type 0} (rules : Rules O Op Reply) (h : ForgettingState O
         f.0.happenings f.2.summary (known f.0 world)
 
   -- the hall, once its parts have become these
-  pub deed_became : (d : Deed Op) (k : LeanState Op O) (o : Outcome) (xs : List (Answer Reply)) (t u : Summary Op Reply) (key : Option Key) (r : ℕ) (g : Gathering Op)
+  pub deed_became : (d : Deed Op) (k : LeanState Op O) (o : Outcome) (xs : List (Answer Reply)) (t u : Summary Op Reply) (key : Option Key)
+      (r : ℕ) (g : Gathering Op)
       → k ≡ acted_lean rules h.network n d → o ≡ outcome_held (lean_node_of rules h.network n) d
       → xs ≡ fresh_answers h.reach o (lean_turn_of rules h.network n d).answers → t ≡ with_replies xs h.summary
       → key ≡ key_placed h.reach o → u ≡ with_effect key t → r ≡ reach_after h.reach o
       → record { network = k; base = h.base; summary = u; opened = h.opened; reach = r; taken = h.taken + 1; gathering = g } ≡ after_deed rules h n d g
   deed_became d k o xs t u key r g nodes outcome fresh told placed effect reached =
-      let replies : t ≡ with_replies (fresh_answers h.reach (outcome_held (lean_node_of rules h.network n) d) (lean_turn_of rules h.network n d).answers) h.summary =
+      let replies : t ≡ with_replies (fresh_answers h.reach (outcome_held (lean_node_of rules h.network n) d) (lean_turn_of rules h.network
+      n d).answers) h.summary =
       told ∙ ap (λ ys. with_replies ys h.summary) (fresh ∙ ap (λ p. fresh_answers h.reach p (lean_turn_of rules h.network n d).answers) outcome) in
       let summary : u ≡ (after_deed rules h n d g).summary =
       effect ∙ ap (λ q. with_effect q t) (placed ∙ ap (key_placed h.reach) outcome)
@@ -183,7 +190,8 @@ module _ {O Op Reply : Type 0} (rules : Rules O Op Reply) (h : ForgettingState O
       (dropped_from h.base (front (lean_mail_of h.network n)) unread)
 
   -- a letter is delivered: the hall goes on
-  pub goes_on_left : Next rules → (l : Letter (Command Op)) (left : LetterBody (Command Op)) (z : ForgettingState Op O Reply) → IsForgettingHall rules h → h.taken < most_events
+  pub goes_on_left : Next rules → (l : Letter (Command Op)) (left : LetterBody (Command Op)) (z : ForgettingState Op O Reply) →
+      IsForgettingHall rules h → h.taken < most_events
       → FollowsLeft rules h n l left z → IsCounted z.summary z.opened z.taken → IsForgettingHall rules z
   goes_on_left next l left z is room follows counted =
       let f = follows is.shown.0 is.shown.1 is.shown.2 in record {

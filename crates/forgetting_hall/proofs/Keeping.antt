@@ -27,7 +27,8 @@ module _ {O Op Reply : Type 0} (rules : Rules O Op Reply) where
   all_nodes h w s = sym (length-map h.network.nodes (λ x. x.state)) ∙ s.cluster.has_nodes
 
   -- where there was no event
-  pub stays : (h z : ForgettingState Op O Reply) → IsForgettingHall rules h → ShowsStill rules h z → IsCounted z.summary z.opened z.taken → IsForgettingHall rules z
+  pub stays : (h z : ForgettingState Op O Reply) → IsForgettingHall rules h → ShowsStill rules h z → IsCounted z.summary z.opened z.taken →
+      IsForgettingHall rules z
   stays h z is still counted = record { shown = (is.shown.0, is.shown.1, still is.shown.0 is.shown.1 is.shown.2); counted = counted }
 
   -- where there was one
@@ -64,7 +65,15 @@ module _ {O Op Reply : Type 0} (rules : Rules O Op Reply) where
   }
 
   pub begun : (members : List ℕ) (k : LeanState Op O) (t : Summary Op Reply) (cs : List (Command Op)) → k ≡ new_lean rules members → t ≡ blank_summary → cs ≡ []
-      → new_forgetting rules members ≡ record { network = k; base = 0; summary = t; opened = 0; reach = 0; taken = 0; gathering = record { is_on = false; commands = cs } }
+      → new_forgetting rules members ≡ record {
+        network = k;
+        base = 0;
+        summary = t;
+        opened = 0;
+        reach = 0;
+        taken = 0;
+        gathering = record { is_on = false; commands = cs };
+      }
   begun members k t cs nodes clients none = λ i. record {
     network = sym nodes i;
     base = 0;
@@ -107,11 +116,13 @@ module _ {O Op Reply : Type 0} (rules : Rules O Op Reply) (h : ForgettingState O
       → (session : ℕ) → h.opened < session → (t : Summary Op Reply) → t ≡ record h.summary { clients = insert h.summary.clients session new_client }
       → ShowsStill rules h (record h { summary = t; opened = session })
   opened_still opens session above t is w i s =
-      subst (λ q. ShowsWorld rules (rest_of_hall rules (record h { summary = q; opened = session })) w) (sym is) (opens (rest_of_hall rules h) w session i s above)
+      subst (λ q. ShowsWorld rules (rest_of_hall rules (record h { summary = q; opened = session })) w) (sym is)
+      (opens (rest_of_hall rules h) w session i s above)
 
   -- and kept no more
   pub let_go_still : ((q : HallRest Op O Reply) (w : World Op Reply) (session : ℕ) → IsWorld rules w → ShowsWorld rules q w
       → ShowsWorld rules (let_go_rest q session) w)
-      → (session : ℕ) (t : Summary Op Reply) → t ≡ record h.summary { clients = remove h.summary.clients session } → ShowsStill rules h (record h { summary = t })
+      → (session : ℕ) (t : Summary Op Reply) → t ≡ record h.summary { clients = remove h.summary.clients session } →
+      ShowsStill rules h (record h { summary = t })
   let_go_still lets_go session t is w i s =
       subst (λ q. ShowsWorld rules (rest_of_hall rules (record h { summary = q })) w) (sym is) (lets_go (rest_of_hall rules h) w session i s)

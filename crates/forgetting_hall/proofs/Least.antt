@@ -26,7 +26,8 @@ smaller a b = at (nat_le a b) refl
     at false e = let h : b ≤ a = grind (arith, nat_tests, e) in inr (omega (arith, h), h)
 
 module _ {O Op Reply : Type 0} (rules : Rules O Op Reply) (h : ForgettingState Op O Reply) where
-  pub least_first : (slot : ℕ) → is_member h.network.members 1 ≡ true → slot ≡ (lean_node_of rules h.network 1).state.replica.slot_out → IsLeastTo rules h 1 slot
+  pub least_first : (slot : ℕ) → is_member h.network.members 1 ≡ true → slot ≡ (lean_node_of rules h.network 1).state.replica.slot_out →
+      IsLeastTo rules h 1 slot
   least_first slot member is = record {
     node = 1;
     member = member;

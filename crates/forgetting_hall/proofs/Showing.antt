@@ -259,7 +259,8 @@ module _ {O Op Reply : Type 0} (rules : Rules O Op Reply) (facts : WorldFacts ru
         }
 
   -- a letter is delivered, of which this was left
-  module _ (n : ℕ) (l : Letter (Command Op)) (left : LetterBody (Command Op)) (network : NetworkState (Command Op)) (f : FollowsLetter rules h.base n l left h.objects network w) where
+  module _ (n : ℕ) (l : Letter (Command Op)) (left : LetterBody (Command Op)) (network : NetworkState (Command Op))
+      (f : FollowsLetter rules h.base n l left h.objects network w) where
     pub letter_shows : FollowsLetterOf rules w h.base n l left (record h { network = network; taken = h.taken + 1 })
     letter_shows =
         let happenings = happens rules w f.world (Deliver f.place) f.step in (

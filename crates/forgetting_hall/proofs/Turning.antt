@@ -46,7 +46,8 @@ module _ {O Op Reply : Type 0} (rules : Rules O Op Reply) where
 
   module _ (k : LeanState Op O) (n : ℕ) (all : length k.nodes ≡ length k.members) (member : is_member k.members n ≡ true) where
     -- the objects, once node n has become h
-    pub objects_turned : (h : Holding Op O) (out : List (Letter (Command Op))) → object_of rules (turned_lean k n h out) ≡ with_object (object_of rules k) n h.object
+    pub objects_turned : (h : Holding Op O) (out : List (Letter (Command Op))) → object_of rules (turned_lean k n h out) ≡
+        with_object (object_of rules k) n h.object
     objects_turned h out = λ i m. at m i
       where
         at : (m : ℕ) → object_of rules (turned_lean k n h out) m ≡ with_object (object_of rules k) n h.object m
@@ -88,8 +89,10 @@ module _ {O Op Reply : Type 0} (rules : Rules O Op Reply) where
     deed_is g all member =
         let turn = turn_is h.network n d own in
         λ i. record {
-          network = net_turned h.network n all member (turn_held rules (states h.network) (object_of rules h.network) n d) (lean_turn_of rules h.network n d) turn i;
-          objects = held_turned h.network n all member (turn_held rules (states h.network) (object_of rules h.network) n d) (lean_turn_of rules h.network n d) turn i;
+          network = net_turned h.network n all member (turn_held rules (states h.network) (object_of rules h.network) n d)
+              (lean_turn_of rules h.network n d) turn i;
+          objects = held_turned h.network n all member (turn_held rules (states h.network) (object_of rules h.network) n d)
+              (lean_turn_of rules h.network n d) turn i;
           base = h.base;
           summary = with_effect (key_placed h.reach (sym outcome_is i))
               (with_replies (fresh_answers h.reach (sym outcome_is i) (sym turn i).answers) h.summary);

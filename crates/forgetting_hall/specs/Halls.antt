@@ -73,7 +73,8 @@ FollowsIn {O} {Op} {Reply} rules h e z =
     (w : World Op Reply) → IsWorld rules w → ShowsWorld rules (rest_of_hall rules h) w → FollowsEvent rules w e (rest_of_hall rules z)
 
 -- the same, where the event is that the letter is delivered that l, in front of node n's mail, stands for, of which this was left
-abbrev pub FollowsLeft : {O Op Reply : Type 0} → Rules O Op Reply → ForgettingState Op O Reply → ℕ → Letter (Command Op) → LetterBody (Command Op) → ForgettingState Op O Reply → Type 0
+abbrev pub FollowsLeft : {O Op Reply : Type 0} → Rules O Op Reply → ForgettingState Op O Reply → ℕ → Letter (Command Op) →
+    LetterBody (Command Op) → ForgettingState Op O Reply → Type 0
 FollowsLeft {O} {Op} {Reply} rules h n l left z =
     (w : World Op Reply) → IsWorld rules w → ShowsWorld rules (rest_of_hall rules h) w → FollowsLetterOf rules w h.base n l left (rest_of_hall rules z)
 

@@ -67,7 +67,8 @@ FollowsEvent {O} {Op} {Reply} rules w e z = (v : World Op Reply) × Step rules w
 
 -- the same, where the event is that a letter is delivered of which this was left: the one that l, in front of node n's mail,
 -- stands for, so it is from the same sender, and to node n
-abbrev pub FollowsLetterOf : {O Op Reply : Type 0} → Rules O Op Reply → World Op Reply → ℕ → ℕ → Letter (Command Op) → LetterBody (Command Op) → HallRest Op O Reply → Type 0
+abbrev pub FollowsLetterOf : {O Op Reply : Type 0} → Rules O Op Reply → World Op Reply → ℕ → ℕ → Letter (Command Op) →
+    LetterBody (Command Op) → HallRest Op O Reply → Type 0
 FollowsLetterOf {O} {Op} {Reply} rules w base n l left z =
     (place : ℕ) × (letter : Letter (Command Op)) × (slice_get w.cluster.letters place ≡ Some letter)
     × (rest_of_body base letter.body ≡ Some left) × IsLetterOf base n l letter × FollowsEvent rules w (Deliver place) z

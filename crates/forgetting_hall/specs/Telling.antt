@@ -10,7 +10,8 @@ use Rattle.forgetting_hall.specs.Rests.{ShowsWorld}
 
 -- A hall of these members gathers, and shows a world that events lead to in which what was taken from it took effect, and behind that
 -- what it has gathered since, in this order, and nothing else.
-pub record HasTold {O Op Reply : Type 0} (rules : Rules O Op Reply) (members : List ℕ) (h : ForgettingState Op O Reply) (told : List (Command Op)) : Type 0 where
+pub record HasTold {O Op Reply : Type 0} (rules : Rules O Op Reply) (members : List ℕ) (h : ForgettingState Op O Reply)
+    (told : List (Command Op)) : Type 0 where
   pub has_members : h.network.members ≡ members
   pub gathers : h.gathering.is_on ≡ true
   pub world : World Op Reply

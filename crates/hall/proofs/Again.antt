@@ -11,7 +11,7 @@ use Rattle.object.specs.declared.command.Command.{Command}
 use Rattle.object.specs.declared.command.Key.{Key}
 use Rattle.object.specs.declared.command.Submission.{Submission}
 use Rattle.object.specs.Happenings.{Happenings, is_submitted, submitted_key, SubmittedOnce}
-use Rattle.object.specs.Keys.{found, same_key, KeysOnce}
+use Rattle.object.specs.Keys.{found, same_key}
 use Rattle.object.specs.KeyLaws.{same_is}
 use Rattle.object.specs.Lists.{In}
 use Rattle.object.specs.Objects.{Rules}

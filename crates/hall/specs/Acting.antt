@@ -1,17 +1,15 @@
 -- What is so of a call by which a node does something by itself.
-use Rattle.std.specs.Prelude.{◌≡◌, ℕ, Option, None, Some, Result, Ok, Err, IsOk, IfErr, OnOk, OnErr}
-use Rattle.object.specs.declared.command.Command.{Command}
+use Rattle.std.specs.Prelude.{◌≡◌, ℕ, None, Result, Ok, Err, IsOk, OnOk}
 use Rattle.object.specs.Objects.{Rules}
 use Rattle.node.specs.Deeds.{ComesToNothing}
 use Rattle.node.specs.declared.deed.Deed.{Deed}
 use Rattle.network.specs.Networks.{node_of}
 use Rattle.agreement.specs.Events.{event_of}
 use Rattle.hall.specs.declared.error.HallError.{HallError}
-use Rattle.hall.specs.declared.error.HallError.TheVariants.{OutOfMemory}
 use Rattle.hall.specs.Explained.{IsBegun}
 use Rattle.hall.specs.Halls.{HallState, with_nodes}
 use Rattle.hall.specs.Recorded.{done}
-use Rattle.hall.specs.Refusals.{event_refusal}
+use Rattle.hall.specs.Refusals.{event_refusal, Refuses}
 use Rattle.hall.specs.Shows.{Follows}
 
 -- what a call came to, its value aside
@@ -27,8 +25,6 @@ pub record Acts {O Op Reply : Type 0} (rules : Rules O Op Reply) (n : ℕ) (deed
   pub event : OnOk result (Follows rules old.nodes (event_of n deed) new.nodes)
   pub begun : IsBegun old.nodes.past new.nodes.past
   pub book : new.book ≡ old.book
-  pub err : OnErr result (new ≡ old)
-  pub refused : (r : HallError) → event_refusal old n ≡ Some r → result ≡ Err r
-  pub memory : event_refusal old n ≡ None → IfErr result (λ r. r ≡ OutOfMemory)
+  pub refused : Refuses (event_refusal old n) result old new
   -- where there is nothing to do, memory is not refused
   pub idle : event_refusal old n ≡ None → ComesToNothing rules (node_of old.nodes.network n) deed → IsOk result

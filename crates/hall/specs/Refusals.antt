@@ -1,6 +1,7 @@
 -- Which calls a hall refuses, and why, want of memory aside. Of several reasons the first in this order is told: no such
 -- node, bad number, busy, full.
-use Rattle.std.specs.Prelude.{ℕ, ◌^◌, Bool, true, false, not, ◌&&◌, ◌||◌, ◌==◌, nat_le, Option, None, Some, is_some, if◌then◌else◌}
+use Rattle.std.specs.Prelude.{◌≡◌, ℕ, ◌^◌, Bool, true, false, not, ◌&&◌, ◌||◌, ◌==◌, nat_le, Option, None, Some, is_some, if◌then◌else◌}
+use Rattle.std.specs.Prelude.{Result, Err, IsOk, IfErr, OnOk, OnErr}
 use Rattle.object.specs.declared.command.Act.{Act}
 use Rattle.object.specs.declared.command.Key.{Key}
 use Rattle.object.specs.declared.command.Submission.{Submission}
@@ -10,7 +11,7 @@ use Rattle.object.specs.Keys.{found}
 use Rattle.ballot.specs.Members.{is_member}
 use Rattle.agreement.specs.Runs.{most_events}
 use Rattle.hall.specs.declared.error.HallError.{HallError}
-use Rattle.hall.specs.declared.error.HallError.TheVariants.{NoSuchNode, BadNumber, Full, Busy}
+use Rattle.hall.specs.declared.error.HallError.TheVariants.{OutOfMemory, NoSuchNode, BadNumber, Full, Busy}
 use Rattle.hall.specs.declared.ticket.NotedAct.{NotedAct}
 use Rattle.hall.specs.Tickets.{TicketState, last_key, last_noted, is_close, is_tick}
 use Rattle.hall.specs.Books.{is_opened, last_number}
@@ -80,3 +81,15 @@ event_refusal h n = if is_stranger h n then Some NoSuchNode else (if is_full h t
 -- and what is no event
 abbrev pub node_refusal : {Op Reply : Type 0} → HallState Op Reply → ℕ → Option HallError
 node_refusal h n = if is_stranger h n then Some NoSuchNode else None
+
+-- A call is refused for this reason where there is one, and else for want of memory alone. Refused, it changes nothing.
+pub record Refuses {T S : Type 0} (reason : Option HallError) (result : Result T HallError) (old new : S) : Type 0 where
+  pub refused : (r : HallError) → reason ≡ Some r → result ≡ Err r
+  pub memory : reason ≡ None → IfErr result (λ r. r ≡ OutOfMemory)
+  pub err : OnErr result (new ≡ old)
+
+-- The same of a call that may find nothing to do. Then it does nothing, and isn't refused memory.
+pub record RefusesOrIdles {T S : Type 0} (reason : Option HallError) (nothing : Type 0) (result : Result T HallError) (old new : S) : Type 0 where
+  pub refused : Refuses reason result old new
+  pub none : OnOk result (nothing → new ≡ old)
+  pub idle : reason ≡ None → nothing → IsOk result

@@ -110,9 +110,13 @@ scout_says (Some s) = P1a s.ballot ∷ []
 abbrev pub says_again : {C : Type 0} → Leading C → List (LetterBody C)
 says_again l = scout_says l.scout ++ map (λ e. P2a e.1.pvalue) (entries l.commanders)
 
+-- what the leader says, in letters to all members
+abbrev pub letters_of : {C : Type 0} → Leading C → List (LetterBody C) → List (Letter C)
+letters_of l says = all_to_all l.members l.ballot.node says
+
 -- what the leader says goes to all members, in letters after those that are there
 abbrev pub Sends : {C : Type 0} → Leading C → List (LetterBody C) → List (Letter C) → List (Letter C) → Type 0
-Sends l says before after = after ≡ before ++ all_to_all l.members l.ballot.node says
+Sends l says before after = after ≡ before ++ letters_of l says
 
 -- the leader is preempted by this ballot of m, and no round comes after it
 pub record LeavesNoBallot {C : Type 0} (l : Leading C) (m : ℕ) (ballot : Numbers) : Type 0 where

@@ -1,5 +1,6 @@
-ghost use Rattle.std.specs.Prelude.{◌≡◌, ◌++◌, OnOk, OnErr, MatchOption};
+ghost use Rattle.std.specs.Prelude.{◌≡◌, MatchOption};
 ghost use Rattle.std.specs.FinMap as slots;
+ghost use Rattle.object.specs.Results.{Becomes, AddsAtEnd};
 ghost use Rattle.ballot.specs.Letters.{to_all};
 ghost use Rattle.scout_commander.specs.Commanders.{new_commander, on_p2b as voting};
 
@@ -15,9 +16,8 @@ pub(crate) fn send_p2a<C: Value>(
     pvalue: &Pvalue<C>,
     out: &mut Vec<Letter<C>>,
 ) -> Result<(), AllocError>
-    ensures ok { OnOk result (out.new.items ≡ out.old.items
-        ++ to_all members from (LetterBody.P2a pvalue.now)) }
-    ensures err { OnErr result (out.new.items ≡ out.old.items) }
+    ensures ok { AddsAtEnd result out.old out.new
+        (to_all members from (LetterBody.P2a pvalue.now)) }
 {
     send_to_all(members, from, LetterBody::P2a(pvalue.copy()?), out)
 }
@@ -30,12 +30,9 @@ pub(crate) fn start_commander<C: Value>(
     commanders: &mut SlotMap<Commander<C>>,
     out: &mut Vec<Letter<C>>,
 ) -> Result<(), AllocError>
-    ensures commander { OnOk result (commanders.new
-        ≡ slots.insert commanders.old pvalue.slot (new_commander members pvalue)) }
-    ensures out { OnOk result (out.new.items ≡ out.old.items
-        ++ to_all members from (LetterBody.P2a pvalue)) }
-    ensures err { OnErr result ((commanders.new ≡ commanders.old)
-        × (out.new.items ≡ out.old.items)) }
+    ensures commander { Becomes result commanders.old commanders.new
+        (slots.insert commanders.old pvalue.slot (new_commander members pvalue)) }
+    ensures out { AddsAtEnd result out.old out.new (to_all members from (LetterBody.P2a pvalue)) }
 {
     let len = out.len();
     send_p2a(members, from, &pvalue, out)?;
@@ -55,9 +52,8 @@ pub(crate) fn send_decision<C: Value>(
     command: &C,
     out: &mut Vec<Letter<C>>,
 ) -> Result<(), AllocError>
-    ensures ok { OnOk result (out.new.items ≡ out.old.items
-        ++ to_all members from (LetterBody.Decision slot command.now)) }
-    ensures err { OnErr result (out.new.items ≡ out.old.items) }
+    ensures ok { AddsAtEnd result out.old out.new
+        (to_all members from (LetterBody.Decision slot command.now)) }
 {
     send_to_all(
         members,

@@ -1,8 +1,9 @@
-ghost use Rattle.std.specs.Prelude.{◌≡◌, ◌≤◌, ◌^◌, ◌↔◌, ◌⊎◌, true, length, IsOk, IsSome, OnOk, OnErr, IfErr, take, vec_len};
+ghost use Rattle.std.specs.Prelude.{◌≡◌, ◌≤◌, ◌^◌, ◌↔◌, ◌⊎◌, true, length, IsOk, IsSome, IfErr};
 ghost use Rattle.std.specs.FinMap as slots;
+ghost use Rattle.object.specs.Results.{Becomes, AddsAtEnd, WritesAtEnd};
 ghost use Rattle.ballot.specs.Members.{is_member};
 ghost use Rattle.ballot.specs.Ballots.{is_below};
-ghost use Rattle.leader.specs.Leaders.{new_leader, preempted, woken, scout_says, says_again, IsLeader, Sends};
+ghost use Rattle.leader.specs.Leaders.{new_leader, preempted, woken, scout_says, says_again, letters_of, IsLeader};
 
 mod adopting;
 mod copying;
@@ -109,13 +110,12 @@ impl<C: Value> Leader<C> {
     /// Gives up, where the ballot is above the leader's, for the ballot of the next round. It takes no memory, and fails with
     /// `NoBallotLeft` alone, where there is no next round.
     pub fn preempted(&mut self, ballot: Ballot) -> Result<(), LeaderError>
-        ensures ok { OnOk result (self.new ≡ preempted self.old ballot) }
+        ensures ok { Becomes result self.old self.new (preempted self.old ballot) }
         ensures error { IfErr result (λ error. error ≡ LeaderError.NoBallotLeft) }
         // A round is at most 2^62, so no other comes after that.
         ensures no_ballot { (result
             ≡ Err LeaderError.NoBallotLeft) ↔ ((is_below self.old.ballot ballot ≡ true)
             × (2 ^ 62 ≤ ballot.round)) }
-        ensures err { OnErr result (self.new ≡ self.old) }
     {
         if ballot <= self.ballot {
             return Ok(());
@@ -132,11 +132,9 @@ impl<C: Value> Leader<C> {
 
     /// Where the leader isn't active and has no scout, it sends one out. Else it does nothing, which takes no memory.
     pub fn wake(&mut self, out: &mut Vec<Letter<C>>) -> Result<(), AllocError>
-        ensures state { OnOk result (self.new ≡ (woken self.old).state) }
-        ensures out { OnOk result
-            (Sends self.old (woken self.old).says out.old.items out.new.items) }
+        ensures state { Becomes result self.old self.new (woken self.old).state }
+        ensures out { AddsAtEnd result out.old out.new (letters_of self.old (woken self.old).says) }
         ensures idle { (self.old.active ≡ true) ⊎ IsSome self.old.scout → IsOk result }
-        ensures err { OnErr result ((self.new ≡ self.old) × (out.new.items ≡ out.old.items)) }
     {
         if self.active || self.scout.is_some() {
             return Ok(());
@@ -148,9 +146,7 @@ impl<C: Value> Leader<C> {
 
     /// Says again what the scout and the commanders wait for.
     pub fn nudge(&self, out: &mut Vec<Letter<C>>) -> Result<(), AllocError>
-        ensures ok { OnOk result
-            (Sends self.now (says_again self.now) out.old.items out.new.items) }
-        ensures err { OnErr result (out.new.items ≡ out.old.items) }
+        ensures ok { AddsAtEnd result out.old out.new (letters_of self.now (says_again self.now)) }
         ensures leader { IsLeader self.now }
     {
         let len = out.len();
@@ -163,9 +159,7 @@ impl<C: Value> Leader<C> {
 
     // The same, but for what was sent before memory ran out.
     fn append_again(&self, out: &mut Vec<Letter<C>>) -> Result<(), AllocError>
-        ensures ok { OnOk result
-            (Sends self.now (says_again self.now) out.old.items out.new.items) }
-        ensures front { take (vec_len out.old) out.new.items ≡ out.old.items }
+        ensures ok { WritesAtEnd result out.old out.new (letters_of self.now (says_again self.now)) }
         ensures leader { IsLeader self.now }
     {
         self.repeat_scout(out)?;
@@ -178,9 +172,8 @@ impl<C: Value> Leader<C> {
 
     // Says again what the scout waits for.
     fn repeat_scout(&self, out: &mut Vec<Letter<C>>) -> Result<(), AllocError>
-        ensures ok { OnOk result
-            (Sends self.now (scout_says self.now.scout) out.old.items out.new.items) }
-        ensures err { OnErr result (out.new.items ≡ out.old.items) }
+        ensures ok { AddsAtEnd result out.old out.new
+            (letters_of self.now (scout_says self.now.scout)) }
         ensures leader { IsLeader self.now }
     {
         if self.scout.is_none() {

@@ -1,5 +1,6 @@
 -- A letter of which something is left, or nothing, once all letters are sorted into the mails.
-use Rattle.std.proofs.Common.{◌≡◌, ⊎_elim, ℕ, zero, suc, ◌<◌, List, [], ◌∷◌, ◌++◌, map, drop, length, Option, None, Some, refl, sym, ap, ◌∙◌, subst, true, length-set}
+use Rattle.std.proofs.Common.{◌≡◌, ⊎_elim, ℕ, zero, suc, ◌<◌, List, [], ◌∷◌, ◌++◌, map, drop, length, Option, None}
+use Rattle.std.proofs.Common.{Some, refl, sym, ap, ◌∙◌, subst, true, length-set}
 use Rattle.std.specs.Prelude.{slice_index_or, slice_set, is_some}
 use Rattle.std.proofs.lemmas.List.{map-set, get_or-set_same, get_or_default}
 use Rattle.object.specs.Lists.{In}

@@ -1,4 +1,5 @@
-ghost use Rattle.std.specs.Prelude.{◌≡◌, ◌++◌, ◌<◌, ◌≤◌, ℕ, length, slice_index_or, None, Some, true, map, IsOk, IfOk, OnOk, OnErr};
+ghost use Rattle.std.specs.Prelude.{◌≡◌, ◌<◌, ◌≤◌, ℕ, length, slice_index_or, None, Some, true, map, IsOk, IfOk, OnOk, OnErr};
+ghost use Rattle.object.specs.Results.{Becomes, AddsAtEnd};
 ghost use Rattle.object.specs.declared.command.Command.{Command};
 ghost use Rattle.ballot.specs.Members.{is_member};
 ghost use Rattle.ballot.specs.Rests.{rest_of_body};
@@ -111,14 +112,12 @@ impl<O: Object> LeanNetwork<O> {
     ) -> Result<Outcome, AllocError>
         requires member { is_member self.old.members id ≡ true }
         requires able { IsAble (lean_node_of O.rules self.old id).state deed }
-        ensures ok { OnOk result (self.new ≡ acted_lean O.rules self.old id deed) }
-        ensures answers { OnOk result (answers.new.items
-            ≡ answers.old.items ++ (lean_turn_of O.rules self.old id deed).answers) }
+        ensures ok { Becomes result self.old self.new (acted_lean O.rules self.old id deed) }
+        ensures answers { AddsAtEnd result answers.old answers.new
+            (lean_turn_of O.rules self.old id deed).answers }
         ensures outcome { IfOk result (λ outcome. outcome
             ≡ outcome_held (lean_node_of O.rules self.old id) deed) }
         ensures idle { ComesToNothing O.rules (lean_node_of O.rules self.old id).state deed → IsOk result }
-        ensures err { OnErr result (self.new ≡ self.old) }
-        ensures unsaid { OnErr result (answers.new.items ≡ answers.old.items) }
     {
         let outcome = self.nodes[usize::from(id - 1)].act(deed, &mut self.fresh, answers)?;
         self.sort_mail();

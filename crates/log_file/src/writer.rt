@@ -1,5 +1,6 @@
 ghost use Rattle.std.specs.Prelude.{◌≡◌, ◌<◌, ◌⊎◌, ◌↔◌, ◌++◌, ◌∷◌, ℕ, List, [], true, false, length, Some, IsOk, IsErrOf, IfOk, IfErr, OnOk, OnErr};
 ghost use Rattle.std.specs.Io.KnownBytes.{Keeps};
+ghost use Rattle.object.specs.Results.{Becomes};
 ghost use Rattle.object.specs.declared.command.Command.{Command};
 ghost use Rattle.bean_words.specs.declared.op.Op.{Op};
 ghost use Rattle.command_log.specs.Lines.{IsLogged, HasClientBody};
@@ -71,9 +72,8 @@ impl<W: Durable> LogWriter<W> {
 
     /// Puts the command's line into the batch.
     pub fn note(&mut self, command: &Command<Op>) -> Result<(), NoteFault>
-        ensures ok { OnOk result (self.new
-            ≡ record self.old { batch = self.old.batch ++ line_of_command command.now }) }
-        ensures err { OnErr result (self.new ≡ self.old) }
+        ensures ok { Becomes result self.old self.new
+            (record self.old { batch = self.old.batch ++ line_of_command command.now }) }
         ensures logged { OnOk result (IsLogged command.now) }
         ensures fault { IfErr result (IsNoteFault self.old.has_failed command.now) }
         ensures fits { HasClientBody command.now.act → IsErrOf result NoteFault.TooLong → ⊥ }

@@ -1,4 +1,5 @@
 ghost use Rattle.std.specs.Prelude.{◌≡◌, ◌++◌, ◌∷◌, [], drop, is_some, true, None, Some, IfOk, OnOk, OnErr, IfSome, IfNone, List};
+ghost use Rattle.object.specs.Results.{Becomes};
 ghost use Rattle.ballot.specs.declared.letter.Letter.{Letter};
 ghost use Rattle.network.specs.Networks.{front};
 
@@ -88,8 +89,7 @@ impl<C: Value> Mail<C> {
 
     /// Takes this letter to its back.
     pub fn push(&mut self, letter: Letter<C>) -> Result<(), AllocError>
-        ensures ok { OnOk result (self.new ≡ self.old ++ (letter ∷ [])) }
-        ensures err { OnErr result (self.new ≡ self.old) }
+        ensures ok { Becomes result self.old self.new (self.old ++ (letter ∷ [])) }
     {
         self.letters.push_back(letter)?;
         Ok(())

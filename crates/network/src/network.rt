@@ -1,4 +1,5 @@
-ghost use Rattle.std.specs.Prelude.{◌≡◌, ◌++◌, None, Some, true, IsOk, IfOk, OnOk, OnErr};
+ghost use Rattle.std.specs.Prelude.{◌≡◌, None, Some, true, IsOk, IfOk, OnOk, OnErr};
+ghost use Rattle.object.specs.Results.{Becomes, AddsAtEnd};
 ghost use Rattle.object.specs.declared.command.Command.{Command};
 ghost use Rattle.ballot.specs.Members.{is_member};
 ghost use Rattle.ballot.specs.declared.letter.Letter.{Letter};
@@ -96,13 +97,11 @@ impl<O: Object> Network<O> {
     ) -> Result<Outcome, AllocError>
         requires member { is_member self.old.members id ≡ true }
         requires able { IsAble (node_of self.old id) deed }
-        ensures ok { OnOk result (self.new ≡ acted_net O.rules self.old id deed) }
-        ensures answers { OnOk result (answers.new.items
-            ≡ answers.old.items ++ (turn_of O.rules self.old id deed).answers) }
+        ensures ok { Becomes result self.old self.new (acted_net O.rules self.old id deed) }
+        ensures answers { AddsAtEnd result answers.old answers.new
+            (turn_of O.rules self.old id deed).answers }
         ensures outcome { IfOk result (λ outcome. outcome ≡ outcome_of (node_of self.old id) deed) }
         ensures idle { ComesToNothing O.rules (node_of self.old id) deed → IsOk result }
-        ensures err { OnErr result (self.new ≡ self.old) }
-        ensures unsaid { OnErr result (answers.new.items ≡ answers.old.items) }
     {
         let outcome = self.nodes[usize::from(id - 1)].act(deed, &mut self.fresh, answers)?;
         self.sort_mail();

@@ -1,4 +1,4 @@
-ghost use Rattle.std.specs.Prelude.{◌≡◌, ◌++◌, ◌<◌, ◌≤◌, ◌^◌, true, length, None, is_some, IsOk, IfOk, OnOk, OnErr, if◌then◌else◌};
+ghost use Rattle.std.specs.Prelude.{◌≡◌, ◌<◌, ◌≤◌, ◌^◌, true, length, None, is_some, IsOk, IfOk, OnOk, OnErr, if◌then◌else◌};
 ghost use Rattle.std.specs.FinMap as map;
 ghost use Rattle.ballot.specs.Ballots.{is_promise};
 ghost use Rattle.ballot.specs.Members.{is_member};
@@ -7,6 +7,7 @@ ghost use Rattle.leader.specs.Leaders.{says_again};
 ghost use Rattle.slot_log.specs.Proposals.{next_proposal, proposed_next};
 ghost use Rattle.object.specs.Obeying.{obeyed};
 ghost use Rattle.object.specs.OnceOnly.{is_later};
+ghost use Rattle.object.specs.Results.{Becomes, AddsAtEnd};
 ghost use Rattle.slot_log.specs.Decisions.{next_decided, undecided};
 ghost use Rattle.slot_log.specs.Histories.{history};
 ghost use Rattle.replica.specs.Replicas.{proposes_first};
@@ -172,16 +173,12 @@ impl<O: Object> LeanNode<O> {
         answers: &mut Vec<Answer<O::Reply>>,
     ) -> Result<Outcome, AllocError>
         requires { IsAble self.old.state deed }
-        ensures state { OnOk result (self.new ≡ (own_turn_held O.rules self.old deed).state) }
-        ensures sent { OnOk result (sent.new.items ≡ sent.old.items
-            ++ (own_turn_held O.rules self.old deed).sent) }
-        ensures answers { OnOk result (answers.new.items ≡ answers.old.items
-            ++ (own_turn_held O.rules self.old deed).answers) }
+        ensures state { Becomes result self.old self.new (own_turn_held O.rules self.old deed).state }
+        ensures sent { AddsAtEnd result sent.old sent.new (own_turn_held O.rules self.old deed).sent }
+        ensures answers { AddsAtEnd result answers.old answers.new
+            (own_turn_held O.rules self.old deed).answers }
         ensures outcome { IfOk result (λ outcome. outcome ≡ outcome_held self.old deed) }
         ensures idle { ComesToNothing O.rules self.old.state deed → IsOk result }
-        ensures err { OnErr result (self.new ≡ self.old) }
-        ensures unsaid { OnErr result ((sent.new.items ≡ sent.old.items)
-            × (answers.new.items ≡ answers.old.items)) }
     {
         match deed {
             Deed::Request(command) => {
@@ -207,9 +204,8 @@ impl<O: Object> LeanNode<O> {
 
     // Says again what it waits for.
     fn nudge(&self, sent: &mut Letters<O>) -> Result<(), AllocError>
-        ensures ok { OnOk result (sent.new.items ≡ sent.old.items
-            ++ said_again (members_of self.now.state) (number_of self.now.state) self.now.state) }
-        ensures err { OnErr result (sent.new.items ≡ sent.old.items) }
+        ensures ok { AddsAtEnd result sent.old sent.new
+            (said_again (members_of self.now.state) (number_of self.now.state) self.now.state) }
     {
         let len = sent.len();
         self.leader.nudge(sent)?;
@@ -226,14 +222,14 @@ impl<O: Object> LeanNode<O> {
     fn propose(&mut self, sent: &mut Letters<O>) -> Result<Outcome, AllocError>
         ensures outcome { IfOk result (λ outcome. outcome
             ≡ done_if (next_proposal self.old.state.replica)) }
-        ensures state { OnOk result (self.new
-            ≡ record self.old { state = record self.old.state { replica = proposed_next self.old.state.replica } }) }
-        ensures sent { OnOk result (sent.new.items ≡ sent.old.items
-            ++ all_to_all (members_of self.old.state) (number_of self.old.state)
+        ensures state { Becomes result self.old self.new
+            (record self.old {
+              state = record self.old.state { replica = proposed_next self.old.state.replica };
+            }) }
+        ensures sent { AddsAtEnd result sent.old sent.new
+            (all_to_all (members_of self.old.state) (number_of self.old.state)
             (proposes_first (next_proposal self.old.state.replica))) }
         ensures idle { next_proposal self.old.state.replica ≡ None → IsOk result }
-        ensures err { OnErr result ((self.new ≡ self.old)
-            × (sent.new.items ≡ sent.old.items)) }
     {
         let does = self
             .replica
@@ -245,13 +241,11 @@ impl<O: Object> LeanNode<O> {
     fn perform(&mut self, answers: &mut Vec<Answer<O::Reply>>) -> Result<Outcome, AllocError>
         ensures outcome { IfOk result (λ outcome. outcome
             ≡ performs_held self.old (next_decided self.old.state.replica)) }
-        ensures state { OnOk result (self.new
-            ≡ (performing_held O.rules self.old (next_decided self.old.state.replica)).state) }
-        ensures answers { OnOk result (answers.new.items ≡ answers.old.items
-            ++ (performing_held O.rules self.old (next_decided self.old.state.replica)).answers) }
+        ensures state { Becomes result self.old self.new
+            (performing_held O.rules self.old (next_decided self.old.state.replica)).state }
+        ensures answers { AddsAtEnd result answers.old answers.new
+            (performing_held O.rules self.old (next_decided self.old.state.replica)).answers }
         ensures idle { next_decided self.old.state.replica ≡ None → IsOk result }
-        ensures err { OnErr result ((self.new ≡ self.old)
-            × (answers.new.items ≡ answers.old.items)) }
     {
         match self.replica.perform(answers)? {
             None => Ok(Outcome::Idle),

@@ -1,5 +1,6 @@
-ghost use Rattle.std.specs.Prelude.{◌≡◌, ◌++◌, true, length, is_some, IsOk, IfOk, OnOk, OnErr};
+ghost use Rattle.std.specs.Prelude.{◌≡◌, true, length, is_some, IsOk, IfOk, OnOk, OnErr};
 ghost use Rattle.std.specs.FinMap as map;
+ghost use Rattle.object.specs.Results.{Becomes, AddsAtEnd};
 ghost use Rattle.ballot.specs.Ballots.{is_promise};
 ghost use Rattle.ballot.specs.Members.{is_member};
 ghost use Rattle.leader.specs.Leaders.{says_again};
@@ -141,16 +142,12 @@ impl<O: Object> Node<O> {
         answers: &mut Vec<Answer<O::Reply>>,
     ) -> Result<Outcome, AllocError>
         requires { IsAble self.old deed }
-        ensures state { OnOk result (self.new ≡ (own_turn O.rules self.old deed).state) }
-        ensures sent { OnOk result (sent.new.items ≡ sent.old.items
-            ++ (own_turn O.rules self.old deed).sent) }
-        ensures answers { OnOk result (answers.new.items ≡ answers.old.items
-            ++ (own_turn O.rules self.old deed).answers) }
+        ensures state { Becomes result self.old self.new (own_turn O.rules self.old deed).state }
+        ensures sent { AddsAtEnd result sent.old sent.new (own_turn O.rules self.old deed).sent }
+        ensures answers { AddsAtEnd result answers.old answers.new
+            (own_turn O.rules self.old deed).answers }
         ensures outcome { IfOk result (λ outcome. outcome ≡ outcome_of self.old deed) }
         ensures idle { ComesToNothing O.rules self.old deed → IsOk result }
-        ensures err { OnErr result (self.new ≡ self.old) }
-        ensures unsaid { OnErr result ((sent.new.items ≡ sent.old.items)
-            × (answers.new.items ≡ answers.old.items)) }
     {
         filter_remembers::<O::Op>();
         self.lean.act(deed, sent, answers)

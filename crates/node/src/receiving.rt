@@ -1,11 +1,12 @@
-ghost use Rattle.std.specs.Prelude.{◌≡◌, ◌<◌, ◌^◌, ◌++◌, true, map, IsOk, IfOk, OnOk, OnErr, None, Some};
+ghost use Rattle.std.specs.Prelude.{◌≡◌, ◌<◌, ◌^◌, true, map, IsOk, IfOk, OnOk, OnErr, None, Some};
 ghost use Rattle.std.specs.FinMap as slots;
+ghost use Rattle.object.specs.Results.{Becomes, AddsAtEnd};
 ghost use Rattle.object.specs.declared.command.Command.{Command};
 ghost use Rattle.ballot.specs.Ballots.{Numbers};
 ghost use Rattle.ballot.specs.Letters.{letter};
 ghost use Rattle.ballot.specs.declared.letter.LetterBody.TheVariants.{P1a, P1b, P2a, P2b, Propose, Decision, Ask};
 ghost use Rattle.acceptor.specs.Acceptors.{Keeps, after_p2a};
-ghost use Rattle.leader.specs.Leaders.{Sends, on_propose};
+ghost use Rattle.leader.specs.Leaders.{letters_of, on_propose};
 ghost use Rattle.leader.specs.Promises.{HearsP1b};
 ghost use Rattle.leader.specs.Votes as votes;
 ghost use Rattle.slot_log.specs.Decisions.{learnt};
@@ -200,9 +201,7 @@ fn send_each<C: Value>(
     bodies: Vec<LetterBody<C>>,
     out: &mut Vec<Letter<C>>,
 ) -> Result<(), AllocError>
-    ensures ok { OnOk result (out.new.items ≡ out.old.items
-        ++ map (λ b. letter «from» b to) bodies.items) }
-    ensures err { OnErr result (out.new.items ≡ out.old.items) }
+    ensures ok { AddsAtEnd result out.old out.new (map (λ b. letter «from» b to) bodies.items) }
 {
     let alloc = *bodies.allocator();
     let mut letters: Vec<Letter<C>> = bodies
@@ -261,13 +260,11 @@ fn hear_vote<C: Value>(
     out: &mut Vec<Letter<C>>,
 ) -> Result<(), AllocError>
     requires { (b : Numbers) → ballot ≡ Some b → b.round < 2 ^ 62 }
-    ensures state { OnOk result (leader.new
-        ≡ (votes.on_p2b leader.old from ballot slot asked).state) }
-    ensures out { OnOk result
-        (Sends leader.old
-        (votes.on_p2b leader.old from ballot slot asked).says out.old.items out.new.items) }
+    ensures state { Becomes result leader.old leader.new
+        (votes.on_p2b leader.old from ballot slot asked).state }
+    ensures out { AddsAtEnd result out.old out.new
+        (letters_of leader.old (votes.on_p2b leader.old from ballot slot asked).says) }
     ensures idle { slots.get leader.old.commanders slot ≡ None → IsOk result }
-    ensures err { OnErr result ((leader.new ≡ leader.old) × (out.new.items ≡ out.old.items)) }
 {
     match leader.on_p2b(from, ballot, slot, asked, out) {
         Ok(()) => Ok(()),
@@ -283,11 +280,11 @@ fn hear_proposal<C: Value>(
     command: &C,
     out: &mut Vec<Letter<C>>,
 ) -> Result<(), AllocError>
-    ensures state { OnOk result (leader.new ≡ (on_propose leader.old slot command.now).state) }
-    ensures out { OnOk result
-        (Sends leader.old (on_propose leader.old slot command.now).says out.old.items out.new.items) }
+    ensures state { Becomes result leader.old leader.new
+        (on_propose leader.old slot command.now).state }
+    ensures out { AddsAtEnd result out.old out.new
+        (letters_of leader.old (on_propose leader.old slot command.now).says) }
     ensures idle { slots.contains_key leader.old.proposals slot ≡ true → IsOk result }
-    ensures err { OnErr result ((leader.new ≡ leader.old) × (out.new.items ≡ out.old.items)) }
 {
     if leader.has_proposal(slot) {
         return Ok(());
@@ -303,10 +300,9 @@ fn learn<O: Object>(
 ) -> Result<(), AllocError>
     requires { (d : Command O.Op) → slots.get replica.old.slots.decisions slot ≡ Some d → d
         ≡ command.now }
-    ensures state { OnOk result (replica.new
-        ≡ record replica.old { slots = learnt replica.old.slots slot command.now }) }
+    ensures state { Becomes result replica.old replica.new
+        (record replica.old { slots = learnt replica.old.slots slot command.now }) }
     ensures idle { slots.contains_key replica.old.slots.decisions slot ≡ true → IsOk result }
-    ensures err { OnErr result (replica.new ≡ replica.old) }
 {
     if replica.knows(slot) {
         return Ok(());

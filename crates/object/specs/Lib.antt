@@ -1,4 +1,5 @@
 pub mod Lists
+pub mod Results
 pub mod Commands
 pub mod Keys
 pub mod Answers

@@ -1,5 +1,6 @@
-ghost use Rattle.std.specs.Prelude.{◌≡◌, IsSome, IsOk, OnOk, OnErr};
+ghost use Rattle.std.specs.Prelude.{◌≡◌, IsSome, IsOk};
 ghost use Rattle.std.specs.FinMap.{empty, get, insert, remove};
+ghost use Rattle.object.specs.Results.{Becomes};
 
 use std::alloc::{AllocError, Global};
 use std::collections::BTreeMap;
@@ -41,8 +42,7 @@ impl Latest {
 
     /// Gives the session this number. It takes no memory where the session has one.
     pub fn set(&mut self, session: u32, number: u64) -> Result<(), AllocError>
-        ensures ok { OnOk result (self.new ≡ insert self.old session number) }
-        ensures err { OnErr result (self.new ≡ self.old) }
+        ensures ok { Becomes result self.old self.new (insert self.old session number) }
         ensures known { IsSome (get self.old session) → IsOk result }
     {
         self.numbers.insert(session, number)?;

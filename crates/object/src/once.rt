@@ -1,5 +1,6 @@
-ghost use Rattle.std.specs.Prelude.{◌≡◌, ◌++◌, true, ◌↔◌, IfOk, OnOk, OnErr};
+ghost use Rattle.std.specs.Prelude.{◌≡◌, true, ◌↔◌, IfOk};
 ghost use Rattle.std.specs.FinMap.{empty};
+ghost use Rattle.object.specs.Results.{Becomes, AddsAtEnd};
 ghost use Rattle.object.specs.OnceOnly.{is_later, filtered, filtered_answers};
 
 use crate::command::{Answer, Command, Key};
@@ -65,12 +66,12 @@ impl<O: Object> Once<O> {
     ) -> Result<Effect, AllocError>
         ensures done { IfOk result (λ effect. (effect
             ≡ Effect.Done) ↔ (is_later cmd.now.key self.old.latest ≡ true)) }
-        ensures state { OnOk result (self.new ≡ filtered O.rules.after self.old cmd.now) }
-        ensures out { OnOk result (out.new.items ≡ out.old.items
-            ++ filtered_answers O.rules.answers self.old cmd.now) }
+        ensures state { Becomes result self.old self.new
+            (filtered O.rules.after self.old cmd.now) }
+        ensures out { AddsAtEnd result out.old out.new
+            (filtered_answers O.rules.answers self.old cmd.now) }
         ensures stale { IfOk result (λ effect. effect ≡ Effect.Stale →
             (self.new ≡ self.old) × (out.new.items ≡ out.old.items)) }
-        ensures err { OnErr result ((self.new ≡ self.old) × (out.new.items ≡ out.old.items)) }
     {
         let key = cmd.key();
         match self.latest.get(key.session) {

@@ -1,6 +1,7 @@
-ghost use Rattle.std.specs.Prelude.{◌≡◌, ◌<◌, ◌≤◌, ◌^◌, ◌∷◌, ◌⊎◌, ◌↔◌, ℕ, List, true, IfSome, IfNone, OnOk, OnErr};
+ghost use Rattle.std.specs.Prelude.{◌≡◌, ◌<◌, ◌≤◌, ◌^◌, ◌∷◌, ◌⊎◌, ◌↔◌, ℕ, List, true, IfSome, IfNone, OnOk};
 ghost use Rattle.object.specs.Lists.{In};
 ghost use Rattle.bean_words.specs.NameSets.{AddsAll};
+ghost use Rattle.session_store.specs.Drafts.{DraftsState, IsKept, KeepsDraft, TakesDraftBack};
 ghost use Rattle.pause_store.specs.declared.pause.Pause.{Pause};
 ghost use Rattle.pause_store.specs.Pauses.{none_paused, is_paused, pause_end, paused_for, at_second, left_at, tubes_over, DropsOver, HasEnds};
 
@@ -128,8 +129,7 @@ fn drop_all_over(seconds: &mut NameDraft<u64>, ends: &mut BTreeSet<Pause>, secon
 impl PauseDraft {
     /// No tube is paused.
     pub fn new(alloc: Global) -> PauseDraft
-        ensures now { result.now ≡ none_paused }
-        ensures before { result.before ≡ none_paused }
+        ensures { IsKept result none_paused }
     {
         PauseDraft {
             seconds: NameDraft::new(alloc),
@@ -169,9 +169,7 @@ impl PauseDraft {
 
     /// Pauses a tube for so many seconds from now on, or no longer where they are none.
     pub fn pause_for(&mut self, tube: &Name, seconds: u32) -> Result<(), AllocError>
-        ensures now { OnOk result (self.new.now ≡ paused_for tube.now seconds self.old.now) }
-        ensures before { self.new.before ≡ self.old.before }
-        ensures err { OnErr result (self.new.now ≡ self.old.now) }
+        ensures { DraftsState self.old self.new (paused_for tube.now seconds self.old.now) result }
     {
         let until = self.second + u64::from(seconds);
         note_end(&mut self.ends, tube, until)?;
@@ -203,8 +201,7 @@ impl PauseDraft {
 
     /// Keeps all changes.
     pub fn keep(&mut self)
-        ensures now { self.new.now ≡ self.old.now }
-        ensures before { self.new.before ≡ self.old.now }
+        ensures { KeepsDraft self.old self.new }
     {
         self.seconds.keep();
         self.kept = self.second;
@@ -213,8 +210,7 @@ impl PauseDraft {
 
     /// Takes back all changes since they were kept last.
     pub fn take_back(&mut self)
-        ensures now { self.new.now ≡ self.old.before }
-        ensures before { self.new.before ≡ self.old.before }
+        ensures { TakesDraftBack self.old self.new }
     {
         self.seconds.take_back();
         self.second = self.kept;

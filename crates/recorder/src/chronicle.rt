@@ -1,6 +1,7 @@
-ghost use Rattle.std.specs.Prelude.{◌≡◌, ◌≤◌, SomeIff, OnOk, OnErr};
+ghost use Rattle.std.specs.Prelude.{◌≡◌, ◌≤◌, SomeIff};
 ghost use Rattle.recorder.specs.Chronicles.{IsChronicle};
 ghost use Rattle.object.specs.Happenings.{IsTimeline};
+ghost use Rattle.object.specs.Results.{Becomes};
 ghost use Rattle.recorder.specs.Growing.{begun, submitted_last, answered_last, placed_last};
 
 use crate::timeline::is_timeline;
@@ -122,8 +123,7 @@ impl<Op: Value, Reply: Value> Chronicle<Op, Reply> {
 
     /// A command more was submitted, after all that happened.
     pub fn submit(&mut self, command: Command<Op>) -> Result<(), AllocError>
-        ensures ok { OnOk result (self.new ≡ submitted_last command self.old) }
-        ensures err { OnErr result (self.new ≡ self.old) }
+        ensures ok { Becomes result self.old self.new (submitted_last command self.old) }
     {
         self.submitted.push(Submission {
             command,
@@ -134,8 +134,7 @@ impl<Op: Value, Reply: Value> Chronicle<Op, Reply> {
 
     /// An answer more was given, after all that happened.
     pub fn answer(&mut self, answer: Answer<Reply>) -> Result<(), AllocError>
-        ensures ok { OnOk result (self.new ≡ answered_last answer self.old) }
-        ensures err { OnErr result (self.new ≡ self.old) }
+        ensures ok { Becomes result self.old self.new (answered_last answer self.old) }
     {
         self.answers.push(answer)?;
         Ok(())
@@ -143,8 +142,7 @@ impl<Op: Value, Reply: Value> Chronicle<Op, Reply> {
 
     /// A command more counted, after all others.
     pub fn place(&mut self, key: Key) -> Result<(), AllocError>
-        ensures ok { OnOk result (self.new ≡ placed_last key self.old) }
-        ensures err { OnErr result (self.new ≡ self.old) }
+        ensures ok { Becomes result self.old self.new (placed_last key self.old) }
     {
         self.order.push(key)?;
         Ok(())

@@ -1,6 +1,7 @@
-ghost use Rattle.std.specs.Prelude.{◌≡◌, ◌∷◌, ◌++◌, ◌-◌, [], false, length, take, OnOk, OnErr};
+ghost use Rattle.std.specs.Prelude.{◌≡◌, ◌∷◌, ◌++◌, ◌-◌, [], false, length, take, OnOk};
 ghost use Rattle.std.specs.Option.{option_copied};
 ghost use Rattle.object.specs.Keys.{stands, found, place_of, KeysOnce};
+ghost use Rattle.object.specs.Results.{Becomes};
 
 use object::{Key, KeyMap, Keyed};
 use std::alloc::{AllocError, Global};
@@ -71,9 +72,8 @@ impl<X: Keyed + Drop> KeyedList<X> {
     /// Puts an item of a new key at the end.
     pub(crate) fn push(&mut self, item: X) -> Result<(), AllocError>
         requires { stands X.key_of (X.key_of item) self.old ≡ false }
-        ensures ok { OnOk result (self.new ≡ self.old ++ item ∷ []) }
+        ensures ok { Becomes result self.old self.new (self.old ++ item ∷ []) }
         ensures once { OnOk result (KeysOnce X.key_of self.new) }
-        ensures err { OnErr result (self.new ≡ self.old) }
     {
         let place = self.items.len();
         self.items.reserve(1)?;

@@ -1,10 +1,11 @@
-ghost use Rattle.std.specs.Prelude.{◌≡◌, List, [], ◌∷◌, true, false, None, Some, if◌then◌else◌, not, option_map, map, drop, IsOk, IfOk, OnOk, OnErr};
+ghost use Rattle.std.specs.Prelude.{◌≡◌, List, [], ◌∷◌, true, false, None, Some, if◌then◌else◌, not, option_map, map, drop, IsOk, IfOk};
 ghost use Rattle.std.specs.List.{filter_map};
 ghost use Rattle.std.specs.Option.{option_copied};
 ghost use Rattle.object.specs.Lists.{In};
 ghost use Rattle.object.specs.Keys.{stands, found};
 ghost use Rattle.object.specs.Answers.{answered_key};
 ghost use Rattle.object.specs.Happenings.{submitted_key, is_submitted, with_submission};
+ghost use Rattle.object.specs.Results.{Becomes};
 ghost use Rattle.object.specs.declared.command.Answer.{Answer};
 ghost use Rattle.recorder.specs.Records.{IsRecord, EndsOpen, blank, command_under, own_key, commands_from, with_first_answers, with_place, without_last_submission};
 ghost use Rattle.recorder.specs.Fates.{fate_at};
@@ -63,9 +64,8 @@ impl<Op: Value, Reply: Value> Recorder<Op, Reply> {
     /// which. It fails for want of memory alone, and takes none for a key that was submitted. What is new
     /// can be withdrawn, and then all is as it was.
     pub fn submit(&mut self, command: &Command<Op>) -> Result<bool, AllocError>
-        ensures ok { OnOk result
-            (self.new
-            ≡ record self.old { happenings = with_submission command.now self.old.happenings }) }
+        ensures ok { Becomes result self.old self.new
+            (record self.old { happenings = with_submission command.now self.old.happenings }) }
         ensures new { IfOk result (λ is_new.
             is_new ≡ not (is_submitted command.now.key self.old.happenings.submitted)) }
         ensures open { IfOk result (λ is_new. is_new ≡ true → EndsOpen self.new) }
@@ -73,7 +73,6 @@ impl<Op: Value, Reply: Value> Recorder<Op, Reply> {
             → without_last_submission self.new ≡ self.old) }
         ensures idle { is_submitted command.now.key self.old.happenings.submitted ≡ true
             → IsOk result }
-        ensures err { OnErr result (self.new ≡ self.old) }
     {
         if self.submitted.has(command.key()) {
             return Ok(false);

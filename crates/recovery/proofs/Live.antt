@@ -1,5 +1,6 @@
 -- Which sessions are open after one command more.
-use Rattle.std.proofs.Common.{◌≡◌, ◌==◌, ◌&&◌, ◌<◌, ◌≤◌, ◌+◌, ℕ, Bool, true, false, not, cond, List, [], ◌∷◌, ◌++◌, length, take, drop, refl, sym, ap, subst, ◌∙◌, arith, IsTrue}
+use Rattle.std.proofs.Common.{◌≡◌, ◌==◌, ◌&&◌, ◌<◌, ◌≤◌, ◌+◌, ℕ, Bool, true, false, not, cond, List, [], ◌∷◌, ◌++◌}
+use Rattle.std.proofs.Common.{length, take, drop, refl, sym, ap, subst, ◌∙◌, arith, IsTrue}
 use Rattle.std.proofs.lemmas.List.{append_assoc, take_more, drop_all}
 use lib.ListN.{get_or}
 use Rattle.std.proofs.lemmas.Bool.Decides.{nat_tests}
@@ -65,8 +66,12 @@ module _ {Op : Type 0} (xs before : List (Command Op)) (i : ℕ) where
       → EndsAll (before ++ take (i + 1) xs) (drop (i + 1) xs) → EndsAll (before ++ take i xs) (drop i xs)
   unfolding EndsAll
   ends_item c inside at close was rest =
-      subst (EndsAll (before ++ take i xs)) (sym (drop_item xs i c inside at))
-      (close, was, subst (λ ds. EndsAll ds (drop (i + 1) xs)) (sym (append_assoc before (take i xs) (c ∷ []) ∙ ap (λ ds. before ++ ds) (sym (take_item xs i c inside at)))) rest)
+      subst (EndsAll (before ++ take i xs)) (sym (drop_item xs i c inside at)) (
+        close,
+        was,
+        subst (λ ds. EndsAll ds (drop (i + 1) xs)) (sym (append_assoc before (take i xs) (c ∷ []) ∙
+            ap (λ ds. before ++ ds) (sym (take_item xs i c inside at)))) rest,
+      )
 
   -- at the end nobody is open
   pub ends_none : (n : BTreeSet ℕ) → length xs ≤ i → ((q : ℕ) → contains nat_cmp n q ≡ false) → AreLeftOpen n (before ++ take i xs)

@@ -18,6 +18,7 @@ abbrev pub AreLeftOpen : {Op : Type 0} → BTreeSet ℕ → List (Command Op) �
 AreLeftOpen live commands = (session : ℕ) → contains nat_cmp live session ≡ is_left_open session commands
 
 -- in the hall of these members these commands took effect, in this order and no others, and it is known which sessions they leave open
-pub record HasReplayed {O Op Reply : Type 0} (rules : Rules O Op Reply) (members : List ℕ) (r : RecoveryState Op O Reply) (commands : List (Command Op)) : Type 0 where
+pub record HasReplayed {O Op Reply : Type 0} (rules : Rules O Op Reply) (members : List ℕ) (r : RecoveryState Op O Reply)
+    (commands : List (Command Op)) : Type 0 where
   pub told : HasTold rules members r.hall commands
   pub live : AreLeftOpen r.live commands

@@ -1,4 +1,4 @@
-ghost use Rattle.std.specs.Prelude.{◌≡◌, ◌↔◌, ◌++◌, ◌<◌, ◌≤◌, true, None, Some, Ok, is_some, map, take, vec_len, IfOk, IfSome, OnOk, OnErr, IsOk, IsErrOf};
+ghost use Rattle.std.specs.Prelude.{◌≡◌, ◌↔◌, ◌<◌, ◌≤◌, true, None, Some, Ok, is_some, map, IfOk, IfSome, IsOk, IsErrOf};
 ghost use Rattle.std.specs.Option.{option_map};
 ghost use Rattle.std.specs.FinMap.{empty, get, contains_key};
 ghost use Rattle.ballot.specs.Members.{is_member};
@@ -6,6 +6,7 @@ ghost use Rattle.ballot.specs.Letters.{letter, all_to_all};
 ghost use Rattle.object.specs.Commands.{same_commands};
 ghost use Rattle.object.specs.Obeying.{obeyed};
 ghost use Rattle.object.specs.OnceOnly.{is_later};
+ghost use Rattle.object.specs.Results.{Becomes, AddsAtEnd, WritesAtEnd};
 ghost use Rattle.object.specs.declared.once.Effect.{Effect};
 ghost use Rattle.slot_log.specs.Books.{new_book};
 ghost use Rattle.slot_log.specs.Requests.{is_known, requested};
@@ -81,25 +82,21 @@ impl<O: Object> Replica<O> {
 
     /// A command is asked for. It goes last in the requests, unless it is known.
     pub fn request(&mut self, command: Command<O::Op>) -> Result<(), AllocError>
-        ensures state { OnOk result (self.new
-            ≡ record self.old {
-              slots = requested (same_commands O.Op.eq) self.old.slots command;
-            }) }
+        ensures state { Becomes result self.old self.new
+            (record self.old { slots = requested (same_commands O.Op.eq) self.old.slots command }) }
         ensures known { is_known (same_commands O.Op.eq) self.old.slots command ≡ true →
             IsOk result }
-        ensures err { OnErr result (self.new ≡ self.old) }
     {
         self.slots.request(command)
     }
 
     /// A command is decided in a slot.
     pub fn learn(&mut self, slot: Slot, command: Command<O::Op>) -> Result<(), LearnError>
-        ensures state { OnOk result (self.new
-            ≡ record self.old { slots = deciding.learnt self.old.slots slot command }) }
+        ensures state { Becomes result self.old self.new
+            (record self.old { slots = deciding.learnt self.old.slots slot command }) }
         ensures clash { IsErrOf result LearnError.Clash
             ↔ deciding.IsClash self.old.slots slot command }
         ensures again { get self.old.slots.decisions slot ≡ Some command → IsOk result }
-        ensures err { OnErr result (self.new ≡ self.old) }
     {
         self.slots.learn(slot, command)
     }
@@ -167,12 +164,11 @@ impl<O: Object> Replica<O> {
         out: &mut Vec<Letter<Command<O::Op>>>,
     ) -> Result<bool, AllocError>
         ensures does { IfOk result (λ does. does ≡ is_some (next_proposal self.old.slots)) }
-        ensures state { OnOk result (self.new
-            ≡ record self.old { slots = proposed_next self.old.slots }) }
-        ensures out { OnOk result (out.new.items ≡ out.old.items
-            ++ all_to_all members node (proposes_first (next_proposal self.old.slots))) }
+        ensures state { Becomes result self.old self.new
+            (record self.old { slots = proposed_next self.old.slots }) }
+        ensures out { AddsAtEnd result out.old out.new
+            (all_to_all members node (proposes_first (next_proposal self.old.slots))) }
         ensures idle { next_proposal self.old.slots ≡ None → IsOk result }
-        ensures err { OnErr result ((self.new ≡ self.old) × (out.new.items ≡ out.old.items)) }
     {
         let len = out.len();
         let proposed = self.append_proposal(members, node, out);
@@ -191,13 +187,11 @@ impl<O: Object> Replica<O> {
         out: &mut Vec<Letter<Command<O::Op>>>,
     ) -> Result<bool, AllocError>
         ensures does { IfOk result (λ does. does ≡ is_some (next_proposal self.old.slots)) }
-        ensures state { OnOk result (self.new
-            ≡ record self.old { slots = proposed_next self.old.slots }) }
-        ensures out { OnOk result (out.new.items
-            ≡ out.old.items ++ all_to_all members node (proposes_first (next_proposal self.old.slots))) }
+        ensures state { Becomes result self.old self.new
+            (record self.old { slots = proposed_next self.old.slots }) }
+        ensures out { WritesAtEnd result out.old out.new
+            (all_to_all members node (proposes_first (next_proposal self.old.slots))) }
         ensures idle { next_proposal self.old.slots ≡ None → IsOk result }
-        ensures err { OnErr result (self.new ≡ self.old) }
-        ensures front { take (vec_len out.old) out.new.items ≡ out.old.items }
     {
         let Some(next) = self.slots.next_proposal() else {
             return Ok(false);
@@ -227,12 +221,11 @@ impl<O: Object> Replica<O> {
             ≡ option_map (λ c. c.key) (deciding.next_decided self.old.slots)) }
         ensures effect { IfOk result (λ done. IfSome done (λ p. (p.effect
             ≡ Effect.Done) ↔ (is_later p.key self.old.object.latest ≡ true))) }
-        ensures state { OnOk result (self.new
-            ≡ performed (same_commands O.Op.eq) O.rules.after self.old) }
-        ensures out { OnOk result (out.new.items ≡ out.old.items
-            ++ performed_answers O.rules.answers self.old) }
+        ensures state { Becomes result self.old self.new
+            (performed (same_commands O.Op.eq) O.rules.after self.old) }
+        ensures out { AddsAtEnd result out.old out.new
+            (performed_answers O.rules.answers self.old) }
         ensures idle { deciding.next_decided self.old.slots ≡ None → result ≡ Ok None }
-        ensures err { OnErr result ((self.new ≡ self.old) × (out.new.items ≡ out.old.items)) }
     {
         let Some(command) = self.slots.next_decided() else {
             return Ok(None);
@@ -251,9 +244,7 @@ impl<O: Object> Replica<O> {
         node: u8,
         out: &mut Vec<Letter<Command<O::Op>>>,
     ) -> Result<(), AllocError>
-        ensures ok { OnOk result (out.new.items ≡ out.old.items
-            ++ nudges members node self.now.slots) }
-        ensures err { OnErr result (out.new.items ≡ out.old.items) }
+        ensures ok { AddsAtEnd result out.old out.new (nudges members node self.now.slots) }
     {
         let len = out.len();
         let said = self.append_nudges(members, node, out);
@@ -270,9 +261,7 @@ impl<O: Object> Replica<O> {
         node: u8,
         out: &mut Vec<Letter<Command<O::Op>>>,
     ) -> Result<(), AllocError>
-        ensures ok { OnOk result (out.new.items ≡ out.old.items
-            ++ nudges members node self.now.slots) }
-        ensures front { take (vec_len out.old) out.new.items ≡ out.old.items }
+        ensures ok { WritesAtEnd result out.old out.new (nudges members node self.now.slots) }
     {
         self.append_proposals(members, node, out)?;
         self.append_asks(members, node, out)
@@ -285,9 +274,8 @@ impl<O: Object> Replica<O> {
         node: u8,
         out: &mut Vec<Letter<Command<O::Op>>>,
     ) -> Result<(), AllocError>
-        ensures ok { OnOk result (out.new.items ≡ out.old.items
-            ++ all_to_all members node (proposes_again self.now.slots)) }
-        ensures front { take (vec_len out.old) out.new.items ≡ out.old.items }
+        ensures ok { WritesAtEnd result out.old out.new
+            (all_to_all members node (proposes_again self.now.slots)) }
     {
         let proposals = self.slots.proposals();
         for (slot, command) in proposals {
@@ -304,9 +292,8 @@ impl<O: Object> Replica<O> {
         node: u8,
         out: &mut Vec<Letter<Command<O::Op>>>,
     ) -> Result<(), AllocError>
-        ensures ok { OnOk result (out.new.items ≡ out.old.items
-            ++ asks_others members node self.now.slots.slot_out) }
-        ensures front { take (vec_len out.old) out.new.items ≡ out.old.items }
+        ensures ok { WritesAtEnd result out.old out.new
+            (asks_others members node self.now.slots.slot_out) }
     {
         let Some(slot) = Slot::new(self.slots.slot_out()) else {
             return Ok(());
@@ -334,9 +321,8 @@ fn send_copies<C: Value>(
     command: &C,
     out: &mut Vec<Letter<C>>,
 ) -> Result<(), AllocError>
-    ensures ok { OnOk result (out.new.items
-        ≡ out.old.items ++ map (letter node (LetterBody.Propose slot command.now)) (but_last members)) }
-    ensures front { take (vec_len out.old) out.new.items ≡ out.old.items }
+    ensures ok { WritesAtEnd result out.old out.new
+        (map (letter node (LetterBody.Propose slot command.now)) (but_last members)) }
 {
     for before in 0..members.count() - 1 {
         let body = LetterBody::Propose(slot, command.copy()?);

@@ -2,6 +2,7 @@ ghost use Rattle.std.specs.Prelude.{◌≡◌, ◌↔◌, ◌≤◌, ℕ, ◌+�
 ghost use Rattle.std.specs.List.{list_all};
 ghost use Rattle.std.specs.BTreeMap.{get, is_at};
 ghost use Rattle.object.specs.Lists.{In};
+ghost use Rattle.object.specs.Results.{Becomes};
 ghost use Rattle.ballot.specs.Ballots.{Numbers};
 ghost use Rattle.ballot.specs.Rests.{pvalues_from};
 ghost use Rattle.scout_commander.specs.Reports.{IsFresh, HasNews, beyond};
@@ -62,9 +63,8 @@ impl<C: Value> Gathered<C> {
 
     /// Puts in what is new of the report.
     pub(crate) fn gather(&mut self, report: &[Pvalue<C>]) -> Result<(), AllocError>
-        ensures kept { OnOk result (self.new ≡ self.old ++ beyond self.old self.new) }
+        ensures kept { Becomes result self.old self.new (self.old ++ beyond self.old self.new) }
         ensures fresh { OnOk result (IsFresh self.old report.now (beyond self.old self.new)) }
-        ensures err { OnErr result (self.new ≡ self.old) }
         ensures known { OnErr result (HasNews self.old report.now) }
     {
         let len = self.pvalues.len();
@@ -99,8 +99,7 @@ impl<C: Value> Gathered<C> {
 
     /// Puts one more at the end.
     fn push(&mut self, pvalue: Pvalue<C>) -> Result<(), AllocError>
-        ensures ok { OnOk result (self.new ≡ self.old ++ pvalue ∷ []) }
-        ensures err { OnErr result (self.new ≡ self.old) }
+        ensures ok { Becomes result self.old self.new (self.old ++ pvalue ∷ []) }
     {
         let len = self.pvalues.len();
         note_end(&mut self.starts, pvalue.slot, pvalue.ballot, len)?;

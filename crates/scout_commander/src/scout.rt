@@ -1,4 +1,5 @@
 ghost use Rattle.std.specs.Prelude.{◌≡◌, ◌↔◌, true, IsOk, IfOk, OnOk, OnErr};
+ghost use Rattle.object.specs.Results.{Becomes};
 ghost use Rattle.scout_commander.specs.Reports.{HasNews};
 ghost use Rattle.scout_commander.specs.Rests.{rest_of_scout};
 ghost use Rattle.scout_commander.specs.Scouts.{new_scout, on_p1b as hearing, fresh_of, TakesFresh, IsPromising, IsAdopting, IsPreempting};
@@ -73,8 +74,8 @@ impl<C: Value> Scout<C> {
     ) -> Result<Heard, AllocError>
         ensures fresh { OnOk result
             (TakesFresh self.old from ballot report.now (fresh_of self.old self.new)) }
-        ensures state { OnOk result
-            (self.new ≡ (hearing self.old from ballot (fresh_of self.old self.new)).scout) }
+        ensures state { Becomes result self.old self.new
+            (hearing self.old from ballot (fresh_of self.old self.new)).scout }
         ensures says { IfOk result
             (λ heard. heard ≡ (hearing self.old from ballot (fresh_of self.old self.new)).says) }
 
@@ -84,7 +85,6 @@ impl<C: Value> Scout<C> {
             ≡ Heard.Preempted ballot) ↔ IsPreempting self.old.members self.old.ballot from ballot) }
         ensures idle { ¬ IsPromising self.old from ballot → IsOk result }
         ensures known { OnErr result (HasNews self.old.gathered report.now) }
-        ensures err { OnErr result (self.new ≡ self.old) }
     {
         if !self.members.has(from) {
             return Ok(Heard::Wait);

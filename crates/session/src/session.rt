@@ -1,4 +1,5 @@
 ghost use Rattle.std.specs.Prelude.{◌≡◌, ◌<◌, ◌≤◌, ◌+◌, ◌++◌, ℕ, List, true, false, None, length, take, drop, vec_len, IsOk, IfOk, OnOk, OnErr};
+ghost use Rattle.object.specs.Results.{Becomes};
 ghost use Rattle.bean_codec.specs.Reads.{longest_unfinished};
 ghost use Rattle.bean_codec.specs.Replies.{reply_text};
 ghost use Rattle.session.specs.Items.{refused_text};
@@ -176,12 +177,11 @@ impl Session {
     /// The reply to the open ask.
     pub fn reply(&mut self, reply: &Reply) -> Result<(), AllocError>
         requires { self.old.is_open ≡ true }
-        ensures ok { OnOk result (self.new
-            ≡ record self.old {
+        ensures ok { Becomes result self.old self.new
+            (record self.old {
               unsent = self.old.unsent ++ reply_text reply.now;
               is_open = false;
             }) }
-        ensures err { OnErr result (self.new ≡ self.old) }
     {
         write_reply(reply, &mut self.text)?;
         self.is_open = false;
@@ -192,9 +192,8 @@ impl Session {
     #[tactic(auto, unfolding(crate::specs::Items::refused_text))]
     pub fn refused(&mut self) -> Result<(), AllocError>
         requires { self.old.is_open ≡ true }
-        ensures ok { OnOk result (self.new
-            ≡ record self.old { unsent = self.old.unsent ++ refused_text; is_open = false }) }
-        ensures err { OnErr result (self.new ≡ self.old) }
+        ensures ok { Becomes result self.old self.new
+            (record self.old { unsent = self.old.unsent ++ refused_text; is_open = false }) }
     {
         self.text.extend_from_slice(b"OUT_OF_MEMORY\r\n")?;
         self.is_open = false;

@@ -1,5 +1,5 @@
 -- Changes that may be taken back.
-use Rattle.std.specs.Prelude.{ℕ, ◌^◌, List, [], ◌∷◌, IsSome}
+use Rattle.std.specs.Prelude.{◌≡◌, ℕ, ◌^◌, List, Result, [], ◌∷◌, IsSome, OnOk, OnErr}
 use Rattle.job_store.specs.Entries.{Rising, value_at, altered, without}
 use Rattle.session_store.specs.declared.session.SessionState.{SessionState}
 use Rattle.session_store.specs.declared.session_step.SessionStep.{SessionStep}
@@ -11,6 +11,25 @@ use Rattle.session_store.specs.Lines.{StandsIn, EachStands, AllStand}
 pub record Draft (X : Type 0) : Type 0 where
   pub now : X
   pub before : X
+
+-- this is so now, or where memory was refused what was so; what was kept stays
+pub record DraftsState {X T E : Type 0} (old new : Draft X) (state : X) (result : Result T E) : Type 0 where
+  pub now : OnOk result (new.now ≡ state)
+  pub err : OnErr result (new.now ≡ old.now)
+  pub before : new.before ≡ old.before
+
+-- this is so now, and kept
+pub record IsKept {X : Type 0} (draft : Draft X) (state : X) : Type 0 where
+  pub now : draft.now ≡ state
+  pub before : draft.before ≡ state
+
+-- what is so now is kept
+abbrev pub KeepsDraft : {X : Type 0} → Draft X → Draft X → Type 0
+KeepsDraft old new = IsKept new old.now
+
+-- what was kept is so now
+abbrev pub TakesDraftBack : {X : Type 0} → Draft X → Draft X → Type 0
+TakesDraftBack old new = IsKept new old.before
 
 -- the sessions, where a step is taken back
 abbrev pub session_step_back : SessionStep → List (ℕ × SessionState) → List (ℕ × SessionState)

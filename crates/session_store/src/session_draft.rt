@@ -2,6 +2,7 @@ ghost use Rattle.std.specs.Prelude.{◌≡◌, ◌^◌, ◌⊎◌, ℕ, List, []
 ghost use Rattle.object.specs.Lists.{In};
 ghost use Rattle.job_store.specs.Entries.{Rising, value_at, with_value, altered, without};
 ghost use Rattle.job_store.specs.LookUps.{is_among};
+ghost use Rattle.session_store.specs.Drafts.{DraftsState, IsKept, KeepsDraft, TakesDraftBack};
 ghost use Rattle.session_store.specs.Sessions.{new_session, session_of, known, with_wait, with_role, first_waiting, has_timed_out};
 ghost use Rattle.session_store.specs.Lines.{AllStand, StandsIn};
 ghost use Rattle.session_store.specs.Rolls.{is_named};
@@ -62,8 +63,7 @@ fn forget(
 impl SessionDraft {
     /// No sessions.
     pub fn new(alloc: Global) -> Self
-        ensures now { result.now ≡ [] }
-        ensures before { result.before ≡ [] }
+        ensures { IsKept result [] }
     {
         SessionDraft {
             alloc,
@@ -118,9 +118,8 @@ impl SessionDraft {
     /// Makes a session that is not there.
     pub fn make(&mut self, session: u32) -> Result<(), AllocError>
         requires { value_at session self.old.now ≡ None }
-        ensures now { OnOk result (self.new.now ≡ with_value session new_session self.old.now) }
-        ensures before { self.new.before ≡ self.old.before }
-        ensures err { OnErr result (self.new.now ≡ self.old.now) }
+        ensures { DraftsState self.old self.new
+            (with_value session new_session self.old.now) result }
     {
         let made = SessionState::new(self.alloc)?;
         self.steps.reserve(1)?;
@@ -132,10 +131,8 @@ impl SessionDraft {
 
     /// Makes a session, or ends its wait, and tells its role. One that is there and doesn't wait is looked up once.
     pub fn know(&mut self, session: u32) -> Result<Role, AllocError>
-        ensures now { OnOk result (self.new.now ≡ known session self.old.now) }
+        ensures drafts { DraftsState self.old self.new (known session self.old.now) result }
         ensures role { IfOk result (λ role. role ≡ (session_of session self.new.now).role) }
-        ensures before { self.new.before ≡ self.old.before }
-        ensures err { OnErr result (self.new.now ≡ self.old.now) }
     {
         let Some(found) = self.sessions.get(&session) else {
             self.make(session)?;
@@ -151,9 +148,8 @@ impl SessionDraft {
     /// Lets a session wait, or wait no longer, if it is there. Where it doesn't wait, that it waits no longer costs
     /// nothing for the tubes that it watches.
     pub fn set_wait(&mut self, session: u32, wait: Option<Wait>) -> Result<(), AllocError>
-        ensures now { OnOk result (self.new.now ≡ altered session (with_wait wait) self.old.now) }
-        ensures before { self.new.before ≡ self.old.before }
-        ensures err { OnErr result (self.new.now ≡ self.old.now) }
+        ensures { DraftsState self.old self.new
+            (altered session (with_wait wait) self.old.now) result }
     {
         let Some(found) = self.sessions.get(&session) else {
             return Ok(());
@@ -174,9 +170,8 @@ impl SessionDraft {
 
     /// Gives a session a role, if it is there. Where it has that role already, nothing is done.
     pub fn set_role(&mut self, session: u32, role: Role) -> Result<(), AllocError>
-        ensures now { OnOk result (self.new.now ≡ altered session (with_role role) self.old.now) }
-        ensures before { self.new.before ≡ self.old.before }
-        ensures err { OnErr result (self.new.now ≡ self.old.now) }
+        ensures { DraftsState self.old self.new
+            (altered session (with_role role) self.old.now) result }
     {
         let Some(found) = self.sessions.get(&session) else {
             return Ok(());
@@ -192,8 +187,7 @@ impl SessionDraft {
 
     /// Keeps all changes.
     pub fn keep(&mut self)
-        ensures now { self.new.now ≡ self.old.now }
-        ensures before { self.new.before ≡ self.old.now }
+        ensures { KeepsDraft self.old self.new }
     {
         leave_steps(&mut self.lines, &self.sessions, self.steps.as_slice());
         self.steps.clear();
@@ -201,9 +195,8 @@ impl SessionDraft {
 
     /// Keeps all changes, and lets a session use a tube, if it is there. That can't be taken back.
     pub fn use_tube_for_good(&mut self, session: u32, name: Name) -> Result<(), AllocError>
-        ensures now { OnOk result
-            (self.new.now ≡ altered session (λ c. record c { used = name }) self.old.now) }
-        ensures before { OnOk result (self.new.before ≡ self.new.now) }
+        ensures kept { OnOk result (IsKept self.new
+            (altered session (λ c. record c { used = name }) self.old.now)) }
         ensures err { OnErr result (self.new ≡ self.old) }
     {
         self.lines.enrol(&name, session)?;
@@ -222,10 +215,8 @@ impl SessionDraft {
         requires { IsSome (value_at session self.old.now) }
         ensures count { IfOk result (λ count. count
             ≡ length (joined name (session_of session self.old.now).watched)) }
-        ensures now { OnOk result
-            (self.new.now
-            ≡ altered session (λ c. record c { watched = joined name c.watched }) self.old.now) }
-        ensures before { OnOk result (self.new.before ≡ self.new.now) }
+        ensures kept { OnOk result (IsKept self.new
+            (altered session (λ c. record c { watched = joined name c.watched }) self.old.now)) }
         ensures err { OnErr result (self.new ≡ self.old) }
     {
         // Where memory is refused after this, the place is left over in the line and on the roll, and passed over.
@@ -244,10 +235,8 @@ impl SessionDraft {
         requires { IsSome (value_at session self.old.now) }
         ensures count { result ≡ length
             (left_out name.now (session_of session self.old.now).watched) }
-        ensures now { self.new.now
-            ≡ altered session
-            (λ c. record c { watched = left_out name.now c.watched }) self.old.now }
-        ensures before { self.new.before ≡ self.new.now }
+        ensures kept { IsKept self.new (altered session
+            (λ c. record c { watched = left_out name.now c.watched }) self.old.now) }
     {
         leave_steps(&mut self.lines, &self.sessions, self.steps.as_slice());
         self.steps.clear();
@@ -261,8 +250,7 @@ impl SessionDraft {
     /// Keeps all changes, and takes out a session, if it is there. That can't be taken back.
     pub fn remove_for_good(&mut self, session: u32) -> Option<SessionState>
         ensures gone { result ≡ value_at session self.old.now }
-        ensures now { self.new.now ≡ without session self.old.now }
-        ensures before { self.new.before ≡ without session self.old.now }
+        ensures kept { IsKept self.new (without session self.old.now) }
     {
         leave_steps(&mut self.lines, &self.sessions, self.steps.as_slice());
         self.steps.clear();
@@ -271,8 +259,7 @@ impl SessionDraft {
 
     /// Takes back all changes since they were kept last.
     pub fn take_back(&mut self)
-        ensures now { self.new.now ≡ self.old.before }
-        ensures before { self.new.before ≡ self.old.before }
+        ensures { TakesDraftBack self.old self.new }
     {
         take_steps_back(&mut self.sessions, self.steps.as_slice());
         leave_steps(&mut self.lines, &self.sessions, self.steps.as_slice());

@@ -1,6 +1,7 @@
-ghost use Rattle.std.specs.Prelude.{◌≡◌, ◌↔◌, ◌++◌, ◌+◌, ◌^◌, ◌<◌, ◌≤◌, ◌==◌, ℕ, true, not, length, None, Some, IsOk, IsSome, IfSome, IfOk, OnOk, OnErr, IsErrOf};
+ghost use Rattle.std.specs.Prelude.{◌≡◌, ◌↔◌, ◌++◌, ◌+◌, ◌^◌, ◌<◌, ◌≤◌, ◌==◌, ℕ, true, not, length, None, Some, IsOk, IsSome, IfSome, IfOk, OnOk, IsErrOf};
 ghost use Rattle.std.specs.Option.{option_map, option_copied};
 ghost use Rattle.std.specs.FinMap as map;
+ghost use Rattle.object.specs.Results.{Becomes};
 ghost use Rattle.slot_log.specs.Books.{new_book};
 ghost use Rattle.slot_log.specs.Places.{ranked};
 ghost use Rattle.slot_log.specs.Requests.{is_known, requested};
@@ -99,9 +100,8 @@ impl<C: Value + Keyed> SlotLog<C> {
 
     /// A command is asked for. It goes last in the requests, unless it is known.
     pub fn request(&mut self, command: C) -> Result<(), AllocError>
-        ensures state { OnOk result (self.new ≡ requested C.eq self.old command) }
+        ensures state { Becomes result self.old self.new (requested C.eq self.old command) }
         ensures known { is_known C.eq self.old command ≡ true → IsOk result }
-        ensures err { OnErr result (self.new ≡ self.old) }
     {
         if self.is_known(&command) {
             return Ok(());
@@ -146,11 +146,10 @@ impl<C: Value + Keyed> SlotLog<C> {
     /// Proposes the first request in the least slot that is open to it, and answers both. It answers None
     /// where no request waits, or no such slot is left in the window.
     pub fn propose_next(&mut self) -> Result<Option<(Slot, C)>, AllocError>
-        ensures state { OnOk result (self.new ≡ proposing.proposed_next self.old) }
+        ensures state { Becomes result self.old self.new (proposing.proposed_next self.old) }
         ensures proposal { IfOk result (λ proposal. proposal
             ≡ proposing.next_proposal self.old) }
         ensures idle { proposing.next_proposal self.old ≡ None → IsOk result }
-        ensures err { OnErr result (self.new ≡ self.old) }
     {
         let Some(first) = self.requests.front() else {
             return Ok(None);
@@ -197,12 +196,11 @@ impl<C: Value + Keyed> SlotLog<C> {
 
     /// A command is decided in a slot.
     pub fn learn(&mut self, slot: Slot, command: C) -> Result<(), LearnError>
-        ensures state { OnOk result (self.new ≡ deciding.learnt self.old slot command) }
+        ensures state { Becomes result self.old self.new (deciding.learnt self.old slot command) }
         ensures clash { IsErrOf result LearnError.Clash ↔ deciding.IsClash self.old slot command }
         ensures again { map.get self.old.decisions slot ≡ Some command → IsOk result }
         ensures unchanged { map.get self.old.decisions slot ≡ Some command → self.new
             ≡ self.old }
-        ensures err { OnErr result (self.new ≡ self.old) }
     {
         match self.decisions.get(slot) {
             Some(decided) if *decided == command => Ok(()),
@@ -216,8 +214,7 @@ impl<C: Value + Keyed> SlotLog<C> {
     // Learns the first decision of a slot.
     fn decide(&mut self, slot: Slot, command: C) -> Result<(), AllocError>
         requires { map.get self.old.decisions slot ≡ None }
-        ensures ok { OnOk result (self.new ≡ deciding.learnt self.old slot command) }
-        ensures err { OnErr result (self.new ≡ self.old) }
+        ensures ok { Becomes result self.old self.new (deciding.learnt self.old slot command) }
     {
         // What every slot is, for the invariant.
         prove!(slot.number() <= LAST_SLOT);

@@ -1,7 +1,8 @@
-ghost use Rattle.std.specs.Prelude.{◌≡◌, [], OnOk, OnErr};
+ghost use Rattle.std.specs.Prelude.{◌≡◌, []};
 ghost use Rattle.std.specs.Map.{lookup, remove_entry};
 ghost use Rattle.std.specs.BTreeMap.{insert_entry, is_at};
 ghost use Rattle.bean_words.specs.Names.{name_cmp};
+ghost use Rattle.session_store.specs.Drafts.{DraftsState, IsKept, KeepsDraft, TakesDraftBack};
 ghost use Rattle.tube_store.specs.NameSteps.{AreByName};
 
 use crate::name_step::{NameStep, change_value, take_steps_back};
@@ -33,8 +34,7 @@ impl<V: Copy> Model for NameDraft<V> {
 impl<V: Copy> NameDraft<V> {
     /// No tube has a value.
     pub fn new(alloc: Global) -> NameDraft<V>
-        ensures now { result.now ≡ [] }
-        ensures before { result.before ≡ [] }
+        ensures { IsKept result [] }
     {
         NameDraft {
             values: BTreeMap::new(alloc),
@@ -52,10 +52,8 @@ impl<V: Copy> NameDraft<V> {
 
     /// Gives a tube this value. For one that has a value it takes memory for a step alone, whose room is kept for later ones.
     pub fn set(&mut self, tube: &Name, value: V) -> Result<(), AllocError>
-        ensures now { OnOk result
-            (self.new.now ≡ insert_entry name_cmp self.old.now tube.now value) }
-        ensures before { self.new.before ≡ self.old.before }
-        ensures err { OnErr result (self.new.now ≡ self.old.now) }
+        ensures drafts { DraftsState self.old self.new
+            (insert_entry name_cmp self.old.now tube.now value) result }
         ensures ordered { AreByName self.old.now }
     {
         self.change(tube, To { value })
@@ -64,11 +62,9 @@ impl<V: Copy> NameDraft<V> {
     /// Makes a change of a tube's value. For one that has a value it takes memory for a step alone, whose room is kept for
     /// later ones.
     pub fn change<C: ValueChange<V>>(&mut self, tube: &Name, change: C) -> Result<(), AllocError>
-        ensures now { OnOk result
-            (self.new.now ≡ insert_entry name_cmp self.old.now tube.now
-            (C.after change (lookup (is_at (name_cmp tube.now)) self.old.now))) }
-        ensures before { self.new.before ≡ self.old.before }
-        ensures err { OnErr result (self.new.now ≡ self.old.now) }
+        ensures drafts { DraftsState self.old self.new
+            (insert_entry name_cmp self.old.now tube.now
+            (C.after change (lookup (is_at (name_cmp tube.now)) self.old.now))) result }
         ensures ordered { AreByName self.old.now }
     {
         change_value(&mut self.values, &mut self.steps, tube, change)
@@ -76,8 +72,7 @@ impl<V: Copy> NameDraft<V> {
 
     /// Keeps all changes, and takes out the value of a tube. That can't be taken back, and takes no memory.
     pub fn forget_for_good(&mut self, tube: &Name)
-        ensures now { self.new.now ≡ remove_entry (is_at (name_cmp tube.now)) self.old.now }
-        ensures before { self.new.before ≡ self.new.now }
+        ensures kept { IsKept self.new (remove_entry (is_at (name_cmp tube.now)) self.old.now) }
         ensures ordered { AreByName self.old.now }
     {
         self.steps.clear();
@@ -86,16 +81,14 @@ impl<V: Copy> NameDraft<V> {
 
     /// Keeps all changes.
     pub fn keep(&mut self)
-        ensures now { self.new.now ≡ self.old.now }
-        ensures before { self.new.before ≡ self.old.now }
+        ensures { KeepsDraft self.old self.new }
     {
         self.steps.clear();
     }
 
     /// Takes back all changes since they were kept last.
     pub fn take_back(&mut self)
-        ensures now { self.new.now ≡ self.old.before }
-        ensures before { self.new.before ≡ self.old.before }
+        ensures { TakesDraftBack self.old self.new }
     {
         take_steps_back(&mut self.values, &mut self.steps);
     }

@@ -1,4 +1,5 @@
-ghost use Rattle.std.specs.Prelude.{◌≡◌, [], OnOk, OnErr};
+ghost use Rattle.std.specs.Prelude.{◌≡◌, []};
+ghost use Rattle.session_store.specs.Drafts.{DraftsState, IsKept, KeepsDraft, TakesDraftBack};
 ghost use Rattle.tube_store.specs.TubeCounts.{counts_at, marked_tube, without_tube};
 
 use crate::name_draft::NameDraft;
@@ -27,8 +28,7 @@ impl Model for TubeDraft {
 impl TubeDraft {
     /// Nothing was done with any tube.
     pub fn new(alloc: Global) -> TubeDraft
-        ensures now { result.now ≡ [] }
-        ensures before { result.before ≡ [] }
+        ensures { IsKept result [] }
     {
         TubeDraft {
             counts: NameDraft::new(alloc),
@@ -47,33 +47,28 @@ impl TubeDraft {
 
     /// Counts what is done with a tube. For one that has counts it takes memory for a step alone, whose room is kept.
     pub fn mark(&mut self, tube: &Name, mark: TubeMark) -> Result<(), AllocError>
-        ensures now { OnOk result (self.new.now ≡ marked_tube mark tube.now self.old.now) }
-        ensures before { self.new.before ≡ self.old.before }
-        ensures err { OnErr result (self.new.now ≡ self.old.now) }
+        ensures { DraftsState self.old self.new (marked_tube mark tube.now self.old.now) result }
     {
         self.counts.change(tube, mark)
     }
 
     /// Keeps all marks, and takes out the counts of a tube. That can't be taken back, and takes no memory.
     pub fn forget_for_good(&mut self, tube: &Name)
-        ensures now { self.new.now ≡ without_tube tube.now self.old.now }
-        ensures before { self.new.before ≡ self.new.now }
+        ensures { IsKept self.new (without_tube tube.now self.old.now) }
     {
         self.counts.forget_for_good(tube);
     }
 
     /// Keeps all marks.
     pub fn keep(&mut self)
-        ensures now { self.new.now ≡ self.old.now }
-        ensures before { self.new.before ≡ self.old.now }
+        ensures { KeepsDraft self.old self.new }
     {
         self.counts.keep();
     }
 
     /// Takes back all marks since they were kept last.
     pub fn take_back(&mut self)
-        ensures now { self.new.now ≡ self.old.before }
-        ensures before { self.new.before ≡ self.old.before }
+        ensures { TakesDraftBack self.old self.new }
     {
         self.counts.take_back();
     }

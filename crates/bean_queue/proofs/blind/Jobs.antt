@@ -51,7 +51,8 @@ each-blind f (e ∷ es) blind = ap₂ (λ v zs. (e.0, v) ∷ zs) (blind e.1) (ea
 pub without-blind : (k : ℕ) (jobs : List (ℕ × Job)) → blanks (without k (blanks jobs)) ≡ blanks (without k jobs)
 without-blind k [] = refl
 without-blind k (e ∷ es) =
-    elim (not (k == e.0)) as (λ b. blanks (cond b (blank e ∷ without k (blanks es)) (without k (blanks es))) ≡ blanks (cond b (e ∷ without k es) (without k es))) [
+    elim (not (k == e.0)) as (λ b. blanks (cond b (blank e ∷ without k (blanks es)) (without k (blanks es))) ≡
+    blanks (cond b (e ∷ without k es) (without k es))) [
       | true ↦ ap (λ zs. blank e ∷ zs) (without-blind k es)
       | false ↦ without-blind k es
     ]

@@ -94,7 +94,8 @@ given-blind s j w =
 give-blind : (s : QueueState) (o : Option (ℕ × Job)) → option_map seen (give (without_counts s) (option_map blank o)) ≡ option_map seen (give s o)
 give-blind s None = refl
 give-blind s (Some j) =
-    elim (first_waiting (λ e. is_among j.1.tube e.1.watched) s.sessions) as (λ w. option_map seen (give_to (without_counts s) (blank j) w) ≡ option_map seen (give_to s j w)) [
+    elim (first_waiting (λ e. is_among j.1.tube e.1.watched) s.sessions) as (λ w. option_map seen (give_to (without_counts s) (blank j) w) ≡
+    option_map seen (give_to s j w)) [
       | None ↦ refl
       | Some w ↦ ap Some (given-blind s j w)
     ]
@@ -118,7 +119,8 @@ told-blind s reply w =
     } in t)
     (blanks-twice s.jobs)
 
-tell-blind : (s : QueueState) (reply : Reply) (o : Option (ℕ × SessionState)) → option_map seen (tell (without_counts s) reply o) ≡ option_map seen (tell s reply o)
+tell-blind : (s : QueueState) (reply : Reply) (o : Option (ℕ × SessionState)) → option_map seen (tell (without_counts s) reply o) ≡
+    option_map seen (tell s reply o)
 tell-blind s reply None = refl
 tell-blind s reply (Some w) = ap Some (told-blind s reply w)
 

@@ -1,5 +1,6 @@
 -- A session that was called is there.
-use Rattle.std.proofs.Common.{◌≡◌, ℕ, true, false, cond, List, Option, None, Some, unwrap_or, ◌^◌, IsSome, is_some, option_map, [], ◌∷◌, refl, sym, ap, subst, ◌∙◌}
+use Rattle.std.proofs.Common.{◌≡◌, ℕ, true, false, cond, List, Option, None, Some, unwrap_or, ◌^◌, IsSome, is_some}
+use Rattle.std.proofs.Common.{option_map, [], ◌∷◌, refl, sym, ap, subst, ◌∙◌}
 use Rattle.job_store.specs.Entries.{Rising, value_at, with_value, altered}
 use Rattle.job_store.specs.EntryLaws.{value_at-altered, value_at-insert, altered-alike}
 use Rattle.object.specs.declared.command.Key.{Key}

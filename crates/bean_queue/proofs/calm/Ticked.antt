@@ -15,7 +15,8 @@ is-later : (b : Bool) → not b ≡ false → b ≡ true
 is-later true e = refl
 is-later false e = cc
 
-tick-later : (q : QueueState) (second : ℕ) → nat_lt q.now second ≡ true → tick_effect second q ≡ then_settled (tubes_over second q.pauses) (second_passed second q)
+tick-later : (q : QueueState) (second : ℕ) → nat_lt q.now second ≡ true → tick_effect second q ≡ then_settled (tubes_over second q.pauses)
+    (second_passed second q)
 unfolding tick_effect
 tick-later q second later = cond-true (nat_lt q.now second) (then_settled (tubes_over second q.pauses) (second_passed second q)) (stop q) later
 

@@ -175,7 +175,8 @@ tick-gives id t s sound =
           (gives-then id t (serve (second_begun t s)) (all_turns deadline_turn)
           (serve-gives id (second_begun t s) (Rising-each _ 1 s.next_id s.jobs sound)) (deadlines-aside _))
           (timeouts-aside _) in
-          let f = settled-gives (tubes_over t s.pauses) id t (then_do (then_do (serve (second_begun t s)) (all_turns deadline_turn)) (all_turns timeout_turn)) g in
+          let f = settled-gives (tubes_over t s.pauses) id t (then_do (then_do (serve (second_begun t s)) (all_turns deadline_turn))
+          (all_turns timeout_turn)) g in
           subst (λ n. GivesOnce id n
           (then_settled (tubes_over t s.pauses) (then_do (then_do (serve (second_begun t s)) (all_turns deadline_turn)) (all_turns timeout_turn)))) (sym f.at) f
       | false ↦ record { sound = sound; at = refl; given = inl refl }
@@ -346,7 +347,8 @@ tick-holds x id ttr second key s sound h =
                   at = refl;
                 }) in
                 let all = keeps-then x id ttr second key.number (then_do (serve (second_begun key.number s)) (all_turns deadline_turn)) (all_turns timeout_turn)
-                (keeps-then x id ttr second key.number (serve (second_begun key.number s)) (all_turns deadline_turn) k (deadlines-aside _)) (timeouts-aside _) in
+                (keeps-then x id ttr second key.number (serve (second_begun key.number s)) (all_turns deadline_turn) k (deadlines-aside _))
+                (timeouts-aside _) in
                 on all.quiet all.keeps.sound all.keeps.held
             | false ↦ on refl sound h
           ]

@@ -174,7 +174,8 @@ row-ok Op.ListTubes key s sound = ok_same s key _ (λ id. refl) sound
 row-ok Op.ListTubeUsed key s sound = ok_same s key _ (λ id. refl) sound
 row-ok Op.ListTubesWatched key s sound = ok_same s key _ (λ id. refl) sound
 row-ok (Op.Pause tube seconds) key s sound =
-    ok_if s key (is_among tube (all_tubes s)) _ _ (record { sound = sound; at = refl; given = λ id. inl refl }) (ok_same s key Reply.NotFound (λ id. refl) sound)
+    ok_if s key (is_among tube (all_tubes s)) _ _ (record { sound = sound; at = refl; given = λ id. inl refl })
+    (ok_same s key Reply.NotFound (λ id. refl) sound)
 row-ok (Op.StatsJob j) key s sound = ok_same s key _ (reported-quiet key s.now j (value_at j s.jobs)) sound
 row-ok (Op.StatsTube tube) key s sound = ok_same s key _ (told-quiet key (is_among tube (all_tubes s)) (tube_report tube (tube_figures s tube))) sound
 row-ok Op.Stats key s sound = ok_same s key _ (λ id. refl) sound

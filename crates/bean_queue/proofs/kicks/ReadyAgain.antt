@@ -50,7 +50,8 @@ module _ (which : Returning) where
             let there : has_run_out which d.1.state ≡ has_run_out which v.state = cc (value_at-here k d es same) in
             rw (eq-eqb k d.0 same, ready-stays which, passed, there, altered-none k (suc d.0) hi (returned_job which) es (omega arith) r.1)
             (elim (has_run_out which v.state) as (λ b. length (cond b (d ∷ filter (λ e. is_returning which e.1.state && has_run_out which e.1.state) es)
-            (filter (λ e. is_returning which e.1.state && has_run_out which e.1.state) es)) ≡ cond b 1 0 + run_out which es) [ true ↦ omega arith | false ↦ omega arith ])
+            (filter (λ e. is_returning which e.1.state && has_run_out which e.1.state) es)) ≡ cond b 1 0 + run_out which es)
+            [ true ↦ omega arith | false ↦ omega arith ])
         | inr apart ↦
             let rest = run_out-altered k (suc d.0) hi es v r.1 (sym (value_at-next k d es apart) ∙ e) t in
             rw (ne_eqb k d.0 apart)

@@ -1,10 +1,11 @@
 ghost use Rattle.std.specs.Prelude.{◌≡◌, ◌≤◌, ◌^◌, ◌+◌, ◌==◌, false, IsSome, IfOk, option_map};
 ghost use Rattle.job_store.specs.Entries.{value_at};
+ghost use Rattle.session_store.specs.Drafts.{DraftsState};
 ghost use Rattle.session_store.specs.Sessions.{with_wait_ended};
 ghost use Rattle.bean_queue.specs.Queue.{with_sessions};
 ghost use Rattle.bean_queue.specs.Rows.{time_out, waiting};
 ghost use Rattle.bean_queue.specs.Effects.{ends_wait};
-ghost use Rattle.bean_queue.specs.Calls.{CanReserve, DraftsState, DraftsOutcome};
+ghost use Rattle.bean_queue.specs.Calls.{CanReserve, DraftsOutcome};
 ghost use Rattle.bean_queue.specs.Reserving.{best_for, denial, reserve_outcome, IsTaken};
 
 use crate::deadlines::holds_by;

@@ -1,9 +1,8 @@
-ghost use Rattle.std.specs.Prelude.{◌≡◌, None, Some, IsOk, IfOk, IfErr, OnOk, OnErr};
+ghost use Rattle.std.specs.Prelude.{◌≡◌, None, IsOk, IfOk, OnOk};
 ghost use Rattle.node.specs.Deeds.{ComesToNothing};
 ghost use Rattle.lean_network.specs.LeanNetworks.{lean_node_of};
 ghost use Rattle.agreement.specs.Events.{event_of};
-ghost use Rattle.hall.specs.declared.error.HallError.{HallError};
-ghost use Rattle.hall.specs.declared.error.HallError.TheVariants.{OutOfMemory};
+ghost use Rattle.hall.specs.Refusals.{Refuses};
 ghost use Rattle.forgetting_hall.specs.Effects.{placed_by};
 ghost use Rattle.forgetting_hall.specs.Gathered.{gathered};
 ghost use Rattle.forgetting_hall.specs.Rests.{IsGoingOn, fresh_answers, outcome_rest, done_rest};
@@ -32,11 +31,7 @@ impl<O: Object> ForgettingHall<O> {
         ensures event { OnOk result (FollowsIn O.rules self.old (event_of node deed) self.new) }
         ensures gathering { OnOk result (self.new.gathering
             ≡ gathered (placed_by (rest_of_hall O.rules self.old) node deed) self.old.gathering) }
-        ensures err { OnErr result (self.new ≡ self.old) }
-        ensures refused { (r : HallError) → refusal_of_event self.old node ≡ Some r →
-            result ≡ Err r }
-        ensures memory { refusal_of_event self.old node ≡ None →
-            IfErr result (λ r. r ≡ OutOfMemory) }
+        ensures refused { Refuses (refusal_of_event self.old node) result self.old self.new }
         ensures idle { refusal_of_event self.old node ≡ None →
             ComesToNothing O.rules (lean_node_of O.rules self.old.network node).state deed →
             IsOk result }

@@ -1,4 +1,4 @@
-ghost use Rattle.std.specs.Prelude.{◌≡◌, None, Some, IsOk, IfOk, IfErr, OnOk, OnErr};
+ghost use Rattle.std.specs.Prelude.{◌≡◌, None, Some, IsOk, IfOk, OnOk};
 ghost use Rattle.object.specs.declared.command.Command.{Command};
 ghost use Rattle.ballot.specs.declared.letter.Letter.{Letter};
 ghost use Rattle.ballot.specs.declared.letter.LetterBody.{LetterBody};
@@ -7,10 +7,11 @@ ghost use Rattle.network.specs.Networks.{front, has_mail};
 ghost use Rattle.lean_network.specs.LeanNetworks.{states, lean_mail_of};
 ghost use Rattle.lean_network.specs.Receipts.{receipt_of};
 ghost use Rattle.hall.specs.declared.error.HallError.{HallError};
-ghost use Rattle.hall.specs.declared.error.HallError.TheVariants.{OutOfMemory};
+ghost use Rattle.hall.specs.Refusals.{RefusesOrIdles};
 ghost use Rattle.forgetting_hall.specs.Rests.{IsReceivedRest, lost_rest, repeated_rest};
 ghost use Rattle.forgetting_hall.specs.Halls.{rest_of_hall, is_received, FollowsLeft, ShowsStill};
 ghost use Rattle.forgetting_hall.specs.Refusing.{refusal_of_event, refusal_of_node};
+ghost use Rattle.forgetting_hall.specs.Calls.{IsNoEvent};
 
 use super::ForgettingHall;
 use crate::fitting::letters_fit;
@@ -41,15 +42,9 @@ impl<O: Object> ForgettingHall<O> {
         ensures still { OnOk result ((l : Letter (Command O.Op))
             → front (lean_mail_of self.old.network node) ≡ Some l
             → rest_of_body self.old.base l.body ≡ None → ShowsStill O.rules self.old self.new) }
-        ensures none { OnOk result (front (lean_mail_of self.old.network node) ≡ None
-            → self.new ≡ self.old) }
         ensures gathering { self.new.gathering ≡ self.old.gathering }
-        ensures err { OnErr result (self.new ≡ self.old) }
-        ensures refused { (r : HallError) → refusal_of_event self.old node ≡ Some r → result ≡ Err r }
-        ensures memory { refusal_of_event self.old node ≡ None →
-            IfErr result (λ r. r ≡ OutOfMemory) }
-        ensures idle { refusal_of_event self.old node ≡ None →
-            front (lean_mail_of self.old.network node) ≡ None → IsOk result }
+        ensures refused { RefusesOrIdles (refusal_of_event self.old node)
+            (front (lean_mail_of self.old.network node) ≡ None) result self.old self.new }
     {
         halls_rest::<O>();
         every_world::<O>();
@@ -67,11 +62,8 @@ impl<O: Object> ForgettingHall<O> {
     /// Drops the letter in front of a node's mail; false where there is none. It takes no memory.
     pub fn lose(&mut self, node: u8) -> Result<bool, HallError>
         ensures came { IfOk result (λ came. came ≡ has_mail (states self.old.network) node) }
-        ensures ok { OnOk result (rest_of_hall O.rules self.new
-            ≡ lost_rest (rest_of_hall O.rules self.old) node) }
-        ensures still { ShowsStill O.rules self.old self.new }
-        ensures gathering { self.new.gathering ≡ self.old.gathering }
-        ensures err { OnErr result (self.new ≡ self.old) }
+        ensures ok { IsNoEvent O.rules (lost_rest (rest_of_hall O.rules self.old) node) result
+            self.old self.new }
         ensures refused { (r : HallError) → refusal_of_node self.old node ≡ Some r → result ≡ Err r }
         ensures succeeds { refusal_of_node self.old node ≡ None → IsOk result }
     {
@@ -88,16 +80,10 @@ impl<O: Object> ForgettingHall<O> {
         ensures ok { OnOk result ((l : Letter (Command O.Op))
             → front (lean_mail_of self.old.network node) ≡ Some l
             → rest_of_hall O.rules self.new ≡ repeated_rest (rest_of_hall O.rules self.old) node l) }
-        ensures none { OnOk result (front (lean_mail_of self.old.network node) ≡ None
-            → self.new ≡ self.old) }
         ensures still { ShowsStill O.rules self.old self.new }
         ensures gathering { self.new.gathering ≡ self.old.gathering }
-        ensures err { OnErr result (self.new ≡ self.old) }
-        ensures refused { (r : HallError) → refusal_of_node self.old node ≡ Some r → result ≡ Err r }
-        ensures memory { refusal_of_node self.old node ≡ None →
-            IfErr result (λ r. r ≡ OutOfMemory) }
-        ensures idle { refusal_of_node self.old node ≡ None →
-            front (lean_mail_of self.old.network node) ≡ None → IsOk result }
+        ensures refused { RefusesOrIdles (refusal_of_node self.old node)
+            (front (lean_mail_of self.old.network node) ≡ None) result self.old self.new }
     {
         halls_rest::<O>();
         if self.is_foreign(node) {

@@ -1,9 +1,10 @@
-ghost use Rattle.std.specs.Prelude.{◌≡◌, ◌≤◌, ◌<◌, ◌+◌, ◌^◌, IfOk, IfErr, OnOk, OnErr};
+ghost use Rattle.std.specs.Prelude.{◌≡◌, ◌≤◌, ◌<◌, ◌+◌, ◌^◌, IfOk, IfErr};
 ghost use Rattle.hall.specs.declared.error.HallError.{HallError};
 ghost use Rattle.hall.specs.declared.error.HallError.TheVariants.{OutOfMemory, Full};
 ghost use Rattle.hall.specs.Halls.{most_sessions};
 ghost use Rattle.forgetting_hall.specs.Rests.{forgotten_rest, opened_rest, let_go_rest};
 ghost use Rattle.forgetting_hall.specs.Halls.{rest_of_hall, ShowsStill, IsLeastOut};
+ghost use Rattle.forgetting_hall.specs.Calls.{IsNoEvent};
 
 use super::ForgettingHall;
 use crate::halls::halls_rest;
@@ -35,11 +36,8 @@ impl<O: Object> ForgettingHall<O> {
     /// The number of a new session. Sessions are numbered from 1.
     pub fn open_session(&mut self) -> Result<u32, HallError>
         ensures session { IfOk result (λ session. session ≡ self.old.opened + 1) }
-        ensures ok { OnOk result (rest_of_hall O.rules self.new
-            ≡ opened_rest (rest_of_hall O.rules self.old)) }
-        ensures still { ShowsStill O.rules self.old self.new }
-        ensures gathering { self.new.gathering ≡ self.old.gathering }
-        ensures err { OnErr result (self.new ≡ self.old) }
+        ensures ok { IsNoEvent O.rules (opened_rest (rest_of_hall O.rules self.old)) result
+            self.old self.new }
         ensures full { most_sessions ≤ self.old.opened → result ≡ Err Full }
         ensures memory { self.old.opened < most_sessions → IfErr result (λ r. r ≡ OutOfMemory) }
     {

@@ -1,15 +1,15 @@
-ghost use Rattle.std.specs.Prelude.{◌≡◌, ◌+◌, true, None, Some, IsOk, IfErr, OnOk, OnErr};
+ghost use Rattle.std.specs.Prelude.{◌≡◌, ◌+◌, true, None, Some, OnOk, OnErr};
 ghost use Rattle.object.specs.declared.command.Command.{Command};
 ghost use Rattle.ballot.specs.Members.{is_member};
 ghost use Rattle.node.specs.declared.deed.Deed.TheVariants.{Request};
 ghost use Rattle.agreement.specs.declared.event.Event.TheVariants.{Submit};
 ghost use Rattle.hall.specs.Halls.{tick_of};
-ghost use Rattle.hall.specs.declared.error.HallError.{HallError};
-ghost use Rattle.hall.specs.declared.error.HallError.TheVariants.{OutOfMemory};
-ghost use Rattle.forgetting_hall.specs.Rests.{acted_rest, handed_in};
+ghost use Rattle.hall.specs.Refusals.{RefusesOrIdles};
+ghost use Rattle.forgetting_hall.specs.Rests.{acted_rest};
 ghost use Rattle.forgetting_hall.specs.Halls.{rest_of_hall, FollowsIn};
 ghost use Rattle.forgetting_hall.specs.Handing.{asked_lean, next_of, last_of, second_of};
 ghost use Rattle.forgetting_hall.specs.Refusing.{refusal_of_submit, refusal_of_resubmit, refusal_of_tick};
+ghost use Rattle.forgetting_hall.specs.Calls.{TakesIn};
 
 use super::ForgettingHall;
 use crate::halls::halls_rest;
@@ -24,16 +24,8 @@ impl<O: Object> ForgettingHall<O> {
     /// A session's next command is handed in, at a node. A session hands in one after the other: it waits for the answer, but
     /// may end before that.
     pub fn submit(&mut self, session: u32, act: Act<O::Op>, node: u8) -> Result<(), HallError>
-        ensures ok { OnOk result (rest_of_hall O.rules self.new
-            ≡ handed_in O.rules (rest_of_hall O.rules self.old) node (next_of self.old session act)) }
-        ensures event { OnOk result (FollowsIn O.rules self.old
-            (Submit node (next_of self.old session act)) self.new) }
-        ensures gathering { self.new.gathering ≡ self.old.gathering }
-        ensures err { OnErr result (self.new ≡ self.old) }
-        ensures refused { (r : HallError) → refusal_of_submit self.old session act node ≡ Some r →
-            result ≡ Err r }
-        ensures memory { refusal_of_submit self.old session act node ≡ None →
-            IfErr result (λ r. r ≡ OutOfMemory) }
+        ensures ok { TakesIn O.rules node (next_of self.old session act)
+            (refusal_of_submit self.old session act node) result self.old self.new }
     {
         every_world::<O>();
         halls_rest::<O>();
@@ -56,15 +48,9 @@ impl<O: Object> ForgettingHall<O> {
             ≡ acted_rest O.rules (rest_of_hall O.rules self.old) node (Request c)) }
         ensures event { OnOk result ((c : Command O.Op) → last_of self.old session ≡ Some c →
             FollowsIn O.rules self.old (Submit node c) self.new) }
-        ensures none { OnOk result (last_of self.old session ≡ None → self.new ≡ self.old) }
         ensures gathering { self.new.gathering ≡ self.old.gathering }
-        ensures err { OnErr result (self.new ≡ self.old) }
-        ensures refused { (r : HallError) → refusal_of_resubmit self.old session node ≡ Some r →
-            result ≡ Err r }
-        ensures memory { refusal_of_resubmit self.old session node ≡ None →
-            IfErr result (λ r. r ≡ OutOfMemory) }
-        ensures idle { refusal_of_resubmit self.old session node ≡ None →
-            last_of self.old session ≡ None → IsOk result }
+        ensures refused { RefusesOrIdles (refusal_of_resubmit self.old session node)
+            (last_of self.old session ≡ None) result self.old self.new }
     {
         every_world::<O>();
         halls_rest::<O>();
@@ -82,14 +68,8 @@ impl<O: Object> ForgettingHall<O> {
 
     /// The clock shows the next second, at a node.
     pub fn tick(&mut self, node: u8) -> Result<(), HallError>
-        ensures ok { OnOk result (rest_of_hall O.rules self.new
-            ≡ handed_in O.rules (rest_of_hall O.rules self.old) node (tick_of (second_of self.old + 1))) }
-        ensures event { OnOk result (FollowsIn O.rules self.old
-            (Submit node (tick_of (second_of self.old + 1))) self.new) }
-        ensures gathering { self.new.gathering ≡ self.old.gathering }
-        ensures err { OnErr result (self.new ≡ self.old) }
-        ensures refused { (r : HallError) → refusal_of_tick self.old node ≡ Some r → result ≡ Err r }
-        ensures memory { refusal_of_tick self.old node ≡ None → IfErr result (λ r. r ≡ OutOfMemory) }
+        ensures ok { TakesIn O.rules node (tick_of (second_of self.old + 1))
+            (refusal_of_tick self.old node) result self.old self.new }
     {
         every_world::<O>();
         halls_rest::<O>();

@@ -1,4 +1,4 @@
-ghost use Rattle.std.specs.Prelude.{◌≡◌, None, Some, IsOk, IfOk, IfErr, OnOk, OnErr, is_some};
+ghost use Rattle.std.specs.Prelude.{◌≡◌, None, IsOk, IfOk, OnOk, is_some};
 ghost use Rattle.slot_log.specs.Decisions.{next_decided};
 ghost use Rattle.slot_log.specs.Proposals.{next_proposal};
 ghost use Rattle.node.specs.Deeds.{outcome_of, ComesToNothing};
@@ -6,11 +6,9 @@ ghost use Rattle.node.specs.declared.deed.Deed.TheVariants as deeds;
 ghost use Rattle.network.specs.Networks.{node_of};
 ghost use Rattle.hall.specs.Recorded.{done, IsOwnDeed};
 ghost use Rattle.agreement.specs.Events.{event_of};
-ghost use Rattle.hall.specs.declared.error.HallError.{HallError};
-ghost use Rattle.hall.specs.declared.error.HallError.TheVariants.{OutOfMemory};
 ghost use Rattle.hall.specs.Shows.{Follows};
 ghost use Rattle.hall.specs.Explained.{IsBegun};
-ghost use Rattle.hall.specs.Refusals.{event_refusal};
+ghost use Rattle.hall.specs.Refusals.{event_refusal, Refuses};
 ghost use Rattle.hall.specs.Acting.{Acts, came_to};
 ghost use Rattle.hall.specs.Halls.{with_nodes, has_done};
 
@@ -88,10 +86,7 @@ impl<O: Object> Hall<O> {
             (Follows O.rules self.old.nodes (event_of node deed) self.new.nodes) }
         ensures begun { IsBegun self.old.nodes.past self.new.nodes.past }
         ensures book { self.new.book ≡ self.old.book }
-        ensures err { OnErr result (self.new ≡ self.old) }
-        ensures refused { (r : HallError) → event_refusal self.old node ≡ Some r → result ≡ Err r }
-        ensures memory { event_refusal self.old node ≡ None →
-            IfErr result (λ r. r ≡ OutOfMemory) }
+        ensures refused { Refuses (event_refusal self.old node) result self.old self.new }
         ensures idle { event_refusal self.old node ≡ None →
             ComesToNothing O.rules (node_of self.old.nodes.network node) deed → IsOk result }
     {

@@ -1,13 +1,13 @@
-ghost use Rattle.std.specs.Prelude.{◌≡◌, None, Some, IsOk, IfOk, IfErr, OnOk, OnErr};
+ghost use Rattle.std.specs.Prelude.{◌≡◌, None, Some, IsOk, IfOk, OnOk, OnErr};
 ghost use Rattle.object.specs.declared.command.Command.{Command};
 ghost use Rattle.ballot.specs.declared.letter.Letter.{Letter};
 ghost use Rattle.network.specs.Networks.{mail_of, front, has_mail};
 ghost use Rattle.hall.specs.declared.error.HallError.{HallError};
-ghost use Rattle.hall.specs.declared.error.HallError.TheVariants.{OutOfMemory, NoSuchNode};
+ghost use Rattle.hall.specs.declared.error.HallError.TheVariants.{NoSuchNode};
 ghost use Rattle.hall.specs.Recorded.{RecordedState, HasReceived, without_front_letter, repeated};
 ghost use Rattle.hall.specs.Shows.{FollowsDelivery, ShowsOn};
 ghost use Rattle.hall.specs.Halls.{with_nodes};
-ghost use Rattle.hall.specs.Refusals.{event_refusal, node_refusal};
+ghost use Rattle.hall.specs.Refusals.{event_refusal, node_refusal, RefusesOrIdles};
 
 use super::Hall;
 use crate::error::HallError;
@@ -25,16 +25,10 @@ impl<O: Object> Hall<O> {
         ensures event { OnOk result ((l : Letter (Command O.Op))
             → front (mail_of self.old.nodes.network node) ≡ Some l
             → FollowsDelivery O.rules self.old.nodes l self.new.nodes) }
-        ensures none { OnOk result (front (mail_of self.old.nodes.network node) ≡ None
-            → self.new ≡ self.old) }
         ensures past { self.new.nodes.past ≡ self.old.nodes.past }
         ensures book { self.new.book ≡ self.old.book }
-        ensures err { OnErr result (self.new ≡ self.old) }
-        ensures refused { (r : HallError) → event_refusal self.old node ≡ Some r → result ≡ Err r }
-        ensures memory { event_refusal self.old node ≡ None →
-            IfErr result (λ r. r ≡ OutOfMemory) }
-        ensures idle { event_refusal self.old node ≡ None →
-            front (mail_of self.old.nodes.network node) ≡ None → IsOk result }
+        ensures refused { RefusesOrIdles (event_refusal self.old node)
+            (front (mail_of self.old.nodes.network node) ≡ None) result self.old self.new }
     {
         laws_below::<O>();
         if let Some(refused) = self.event_refusal(node) {
@@ -68,16 +62,11 @@ impl<O: Object> Hall<O> {
         ensures ok { OnOk result ((l : Letter (Command O.Op))
             → front (mail_of self.old.nodes.network node) ≡ Some l
             → self.new ≡ with_nodes self.old (repeated self.old.nodes node l)) }
-        ensures none { OnOk result (front (mail_of self.old.nodes.network node) ≡ None
-            → self.new ≡ self.old) }
         ensures still { ShowsOn self.old.nodes self.new.nodes }
         ensures past { self.new.nodes.past ≡ self.old.nodes.past }
         ensures book { self.new.book ≡ self.old.book }
-        ensures err { OnErr result (self.new ≡ self.old) }
-        ensures refused { (r : HallError) → node_refusal self.old node ≡ Some r → result ≡ Err r }
-        ensures memory { node_refusal self.old node ≡ None → IfErr result (λ r. r ≡ OutOfMemory) }
-        ensures idle { node_refusal self.old node ≡ None →
-            front (mail_of self.old.nodes.network node) ≡ None → IsOk result }
+        ensures refused { RefusesOrIdles (node_refusal self.old node)
+            (front (mail_of self.old.nodes.network node) ≡ None) result self.old self.new }
     {
         laws_below::<O>();
         if self.is_stranger(node) {

@@ -1,9 +1,8 @@
-ghost use Rattle.std.specs.Prelude.{◌≡◌, ◌<◌, true, false, None, Some, IsOk, IfOk, IfErr, OnOk, OnErr, max};
+ghost use Rattle.std.specs.Prelude.{◌≡◌, ◌<◌, true, false, None, Some, IfErr, OnOk, OnErr, max};
 ghost use Rattle.object.specs.declared.command.Command.{Command};
 ghost use Rattle.ballot.specs.Members.{is_member};
 ghost use Rattle.agreement.specs.Runs.{most_events};
 ghost use Rattle.agreement.specs.declared.event.Event.TheVariants.{Submit};
-ghost use Rattle.hall.specs.declared.error.HallError.{HallError};
 ghost use Rattle.hall.specs.declared.error.HallError.TheVariants.{OutOfMemory};
 ghost use Rattle.hall.specs.declared.ticket.NotedAct.{NotedAct};
 ghost use Rattle.hall.specs.Recorded.{asked};
@@ -12,7 +11,7 @@ ghost use Rattle.hall.specs.Explained.{IsBegun};
 ghost use Rattle.hall.specs.Books.{IsNextKey};
 ghost use Rattle.hall.specs.Tickets.{next_key, next_command, last_command, last_noted, with_act, is_tick};
 ghost use Rattle.hall.specs.Halls.{after_submit, after_tick, with_nodes, tick_of};
-ghost use Rattle.hall.specs.Refusals.{submit_refusal, resubmit_refusal, tick_refusal};
+ghost use Rattle.hall.specs.Refusals.{submit_refusal, resubmit_refusal, tick_refusal, Refuses, RefusesOrIdles};
 
 use super::Hall;
 use crate::error::HallError;
@@ -36,12 +35,9 @@ impl<O: Object> Hall<O> {
         ensures next { OnOk result (IsNextKey self.old.book (next_key ticket.old)) }
         ensures ticket { OnOk result (ticket.new ≡ with_act ticket.old act) }
         ensures begun { IsBegun self.old.nodes.past self.new.nodes.past }
-        ensures err { OnErr result (self.new ≡ self.old) }
         ensures kept { OnErr result (ticket.new ≡ ticket.old) }
-        ensures refused { (r : HallError) →
-            submit_refusal O.Op.eq self.old ticket.old act node ≡ Some r → result ≡ Err r }
-        ensures memory { submit_refusal O.Op.eq self.old ticket.old act node ≡ None →
-            IfErr result (λ r. r ≡ OutOfMemory) }
+        ensures refused { Refuses (submit_refusal O.Op.eq self.old ticket.old act node) result
+            self.old self.new }
     {
         if let Some(refused) = self.submit_refusal(ticket, &act, node) {
             return Err(refused);
@@ -64,16 +60,10 @@ impl<O: Object> Hall<O> {
         ensures event { OnOk result ((noted : NotedAct O.Op O.Reply) →
             last_noted ticket.now ≡ Some noted → Follows O.rules self.old.nodes
             (Submit node (last_command ticket.now noted.act)) self.new.nodes) }
-        ensures none { OnOk result (last_noted ticket.now ≡ None → self.new ≡ self.old) }
         ensures past { self.new.nodes.past ≡ self.old.nodes.past }
         ensures book { self.new.book ≡ self.old.book }
-        ensures err { OnErr result (self.new ≡ self.old) }
-        ensures refused { (r : HallError) →
-            resubmit_refusal O.Op.eq self.old ticket.now node ≡ Some r → result ≡ Err r }
-        ensures memory { resubmit_refusal O.Op.eq self.old ticket.now node ≡ None →
-            IfErr result (λ r. r ≡ OutOfMemory) }
-        ensures idle { resubmit_refusal O.Op.eq self.old ticket.now node ≡ None →
-            last_noted ticket.now ≡ None → IsOk result }
+        ensures refused { RefusesOrIdles (resubmit_refusal O.Op.eq self.old ticket.now node)
+            (last_noted ticket.now ≡ None) result self.old self.new }
     {
         laws_below::<O>();
         if let Some(refused) = self.resubmit_refusal(ticket, node) {
@@ -95,11 +85,7 @@ impl<O: Object> Hall<O> {
             (Submit node (tick_of second)) self.new.nodes) }
         ensures begun { IsBegun self.old.nodes.past self.new.nodes.past }
         ensures book { self.new.book ≡ self.old.book }
-        ensures err { OnErr result (self.new ≡ self.old) }
-        ensures refused { (r : HallError) → tick_refusal self.old second node ≡ Some r →
-            result ≡ Err r }
-        ensures memory { tick_refusal self.old second node ≡ None →
-            IfErr result (λ r. r ≡ OutOfMemory) }
+        ensures refused { Refuses (tick_refusal self.old second node) result self.old self.new }
     {
         laws_below::<O>();
         if let Some(refused) = self.tick_refusal(second, node) {

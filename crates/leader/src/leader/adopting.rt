@@ -1,5 +1,6 @@
-ghost use Rattle.std.specs.Prelude.{◌≡◌, IfOk, OnOk, OnErr, IsSome, take, vec_len};
-ghost use Rattle.leader.specs.Leaders.{Sends};
+ghost use Rattle.std.specs.Prelude.{◌≡◌, IfOk, OnOk, IsSome};
+ghost use Rattle.object.specs.Results.{Becomes, AddsAtEnd, WritesAtEnd};
+ghost use Rattle.leader.specs.Leaders.{letters_of};
 ghost use Rattle.leader.specs.Adoptions.{TakesGreatest, adopted, commanders_for, asks_acceptors};
 
 use super::Leader;
@@ -21,11 +22,10 @@ impl<C: Value> Leader<C> {
         requires { IsSome self.old.scout }
         ensures taken { OnOk result
             (TakesGreatest self.old.proposals gathered.items self.new.proposals) }
-        ensures state { OnOk result (self.new ≡ (adopted self.old self.new.proposals).state) }
-        ensures out { OnOk result
-            (Sends self.old
-            (adopted self.old self.new.proposals).says out.old.items out.new.items) }
-        ensures err { OnErr result ((self.new ≡ self.old) × (out.new.items ≡ out.old.items)) }
+        ensures state { Becomes result self.old self.new
+            (adopted self.old self.new.proposals).state }
+        ensures out { AddsAtEnd result out.old out.new
+            (letters_of self.old (adopted self.old self.new.proposals).says) }
     {
         let report = Vec::new(self.alloc);
         let proposals = with_greatest(
@@ -43,10 +43,9 @@ impl<C: Value> Leader<C> {
         proposals: SlotMap<C>,
         out: &mut Vec<Letter<C>>,
     ) -> Result<(), AllocError>
-        ensures state { OnOk result (self.new ≡ (adopted self.old proposals).state) }
-        ensures out { OnOk result
-            (Sends self.old (adopted self.old proposals).says out.old.items out.new.items) }
-        ensures err { OnErr result ((self.new ≡ self.old) × (out.new.items ≡ out.old.items)) }
+        ensures state { Becomes result self.old self.new (adopted self.old proposals).state }
+        ensures out { AddsAtEnd result out.old out.new
+            (letters_of self.old (adopted self.old proposals).says) }
     {
         let commanders = self.start_commanders(&proposals, out)?;
         self.active = true;
@@ -64,9 +63,8 @@ impl<C: Value> Leader<C> {
     ) -> Result<SlotMap<Commander<C>>, AllocError>
         ensures commanders { IfOk result (λ commanders. commanders
             ≡ commanders_for self.now proposals.now) }
-        ensures out { OnOk result
-            (Sends self.now (asks_acceptors self.now proposals.now) out.old.items out.new.items) }
-        ensures err { OnErr result (out.new.items ≡ out.old.items) }
+        ensures out { AddsAtEnd result out.old out.new
+            (letters_of self.now (asks_acceptors self.now proposals.now)) }
     {
         let len = out.len();
         let commanders = self.append_asks(proposals, out);
@@ -84,9 +82,8 @@ impl<C: Value> Leader<C> {
     ) -> Result<SlotMap<Commander<C>>, AllocError>
         ensures commanders { IfOk result (λ commanders. commanders
             ≡ commanders_for self.now proposals.now) }
-        ensures out { OnOk result
-            (Sends self.now (asks_acceptors self.now proposals.now) out.old.items out.new.items) }
-        ensures front { take (vec_len out.old) out.new.items ≡ out.old.items }
+        ensures out { WritesAtEnd result out.old out.new
+            (letters_of self.now (asks_acceptors self.now proposals.now)) }
     {
         let mut commanders = SlotMap::new(self.alloc);
         let entries = proposals.entries();

@@ -1,6 +1,7 @@
-ghost use Rattle.std.specs.Prelude.{◌≡◌, IsOk, OnOk, OnErr, true, false};
+ghost use Rattle.std.specs.Prelude.{◌≡◌, IsOk, true, false};
 ghost use Rattle.std.specs.FinMap as slots;
-ghost use Rattle.leader.specs.Leaders.{on_propose, commands, Sends};
+ghost use Rattle.object.specs.Results.{Becomes, AddsAtEnd};
+ghost use Rattle.leader.specs.Leaders.{on_propose, commands, letters_of};
 
 use super::Leader;
 use crate::commanding::start_commander;
@@ -17,11 +18,10 @@ impl<C: Value> Leader<C> {
         command: C,
         out: &mut Vec<Letter<C>>,
     ) -> Result<(), AllocError>
-        ensures state { OnOk result (self.new ≡ (on_propose self.old slot command).state) }
-        ensures out { OnOk result
-            (Sends self.old (on_propose self.old slot command).says out.old.items out.new.items) }
+        ensures state { Becomes result self.old self.new (on_propose self.old slot command).state }
+        ensures out { AddsAtEnd result out.old out.new
+            (letters_of self.old (on_propose self.old slot command).says) }
         ensures idle { slots.contains_key self.old.proposals slot ≡ true → IsOk result }
-        ensures err { OnErr result ((self.new ≡ self.old) × (out.new.items ≡ out.old.items)) }
     {
         if self.proposals.contains(slot) {
             return Ok(());
@@ -40,10 +40,9 @@ impl<C: Value> Leader<C> {
         out: &mut Vec<Letter<C>>,
     ) -> Result<(), AllocError>
         requires { slots.contains_key self.old.proposals slot ≡ false }
-        ensures state { OnOk result (self.new ≡ (commands self.old slot command).state) }
-        ensures out { OnOk result
-            (Sends self.old (commands self.old slot command).says out.old.items out.new.items) }
-        ensures err { OnErr result ((self.new ≡ self.old) × (out.new.items ≡ out.old.items)) }
+        ensures state { Becomes result self.old self.new (commands self.old slot command).state }
+        ensures out { AddsAtEnd result out.old out.new
+            (letters_of self.old (commands self.old slot command).says) }
     {
         let pvalue = Pvalue {
             ballot: self.ballot,

@@ -1,7 +1,8 @@
-ghost use Rattle.std.specs.Prelude.{◌≡◌, ◌↔◌, IsOk, OnOk, OnErr, IsSome, Some};
+ghost use Rattle.std.specs.Prelude.{◌≡◌, ◌↔◌, IsOk, IsSome, Some};
 ghost use Rattle.std.specs.FinMap as slots;
+ghost use Rattle.object.specs.Results.{Becomes, AddsAtEnd};
 ghost use Rattle.ballot.specs.Ballots.{Numbers};
-ghost use Rattle.leader.specs.Leaders.{Sends, LeavesNoBallot};
+ghost use Rattle.leader.specs.Leaders.{letters_of, LeavesNoBallot};
 ghost use Rattle.leader.specs.Votes.{on_p2b as voting};
 
 use super::Leader;
@@ -22,15 +23,14 @@ impl<C: Value> Leader<C> {
         asked: Ballot,
         out: &mut Vec<Letter<C>>,
     ) -> Result<(), LeaderError>
-        ensures state { OnOk result (self.new ≡ (voting self.old from ballot slot asked).state) }
-        ensures out { OnOk result
-            (Sends self.old
-            (voting self.old from ballot slot asked).says out.old.items out.new.items) }
+        ensures state { Becomes result self.old self.new
+            (voting self.old from ballot slot asked).state }
+        ensures out { AddsAtEnd result out.old out.new
+            (letters_of self.old (voting self.old from ballot slot asked).says) }
         ensures no_ballot { (result
             ≡ Err LeaderError.NoBallotLeft) ↔ (IsSome (slots.get self.old.commanders slot)
             × ((b : Numbers) × (ballot ≡ Some b) × LeavesNoBallot self.old from b)) }
         ensures idle { slots.get self.old.commanders slot ≡ None → IsOk result }
-        ensures err { OnErr result ((self.new ≡ self.old) × (out.new.items ≡ out.old.items)) }
     {
         let Some(ballot) = ballot else {
             return Ok(());
@@ -57,13 +57,11 @@ impl<C: Value> Leader<C> {
         slot: Slot,
         out: &mut Vec<Letter<C>>,
     ) -> Result<(), AllocError>
-        ensures state { OnOk result (self.new
-            ≡ (voting self.old from (Some self.old.ballot) slot self.old.ballot).state) }
-        ensures out { OnOk result
-            (Sends self.old
-            (voting self.old from
-            (Some self.old.ballot) slot self.old.ballot).says out.old.items out.new.items) }
-        ensures err { OnErr result ((self.new ≡ self.old) × (out.new.items ≡ out.old.items)) }
+        ensures state { Becomes result self.old self.new
+            (voting self.old from (Some self.old.ballot) slot self.old.ballot).state }
+        ensures out { AddsAtEnd result out.old out.new
+            (letters_of self.old
+            (voting self.old from (Some self.old.ballot) slot self.old.ballot).says) }
     {
         let Some(commander) = self.commanders.get(slot) else {
             return Ok(());

@@ -12,12 +12,17 @@ loop-before-preserved g c = record {
   front = grind (arith, common_steps);
 }
 
-pub returns-clause-ok : goal.returns-clause-ok
-returns-clause-ok g c =
+pub returns : goal.returns
+returns g c =
     let some = c.count-last.ensures.some in
     let last = c.loop-before-test.false in
     let within = c.loop-before.auto.before-end in
-    with_last c.args.out.now.items c.loop-before.out.items _ c.args.members c.args.from c.loop-before.before
-    c.count-last.result c.args.body _
-    (omega arith) c.count-last.ensures.count c.loop-before.invariant.sent c.loop-before.invariant.same
-    c.in_ok-push-2.ensures.items
+    record {
+      ok = (
+        with_last c.args.out.now.items c.loop-before.out.items _ c.args.members c.args.from c.loop-before.before
+            c.count-last.result c.args.body _
+            (omega arith) c.count-last.ensures.count c.loop-before.invariant.sent c.loop-before.invariant.same
+            c.in_ok-push-2.ensures.items,
+        grind (arith, common_steps),
+      );
+    }

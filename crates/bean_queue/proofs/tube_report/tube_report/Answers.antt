@@ -17,5 +17,7 @@ returns c =
     (onward _ c.number.new.self c.number-2.new.self _
     (onward _ c.tally.new.self c.number.new.self _
     (onward _ c.line.new.self c.tally.new.self _
-    (c.in_ok-line.ensures ∙ ap₂ (λ a b. a ++ report_line (codes "name") b) c.in_ok-report.ensures c.as_slice.ensures.bytes) c.in_ok-tally.ensures) c.in_ok-number.ensures) c.in_ok-number-2.ensures) c.in_ok-number-3.ensures) c.in_ok-number-4.ensures) c.in_ok-number-5.ensures) c.in_ok-number-6.ensures) c.in_ok-number-7.ensures) c.in_ok-number-8.ensures)
+    (c.in_ok-line.ensures ∙ ap₂ (λ a b. a ++ report_line (codes "name") b) c.in_ok-report.ensures c.as_slice.ensures.bytes)
+    c.in_ok-tally.ensures) c.in_ok-number.ensures) c.in_ok-number-2.ensures) c.in_ok-number-3.ensures) c.in_ok-number-4.ensures)
+    c.in_ok-number-5.ensures) c.in_ok-number-6.ensures) c.in_ok-number-7.ensures) c.in_ok-number-8.ensures)
     c.text.ensures

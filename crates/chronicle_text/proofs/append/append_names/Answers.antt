@@ -1,4 +1,4 @@
-use Rattle.std.proofs.Common.{take, arith}
+use Rattle.std.proofs.Common.{take, arith, rules}
 use Rattle.chronicle_text.specs.Lines.{spaced}
 use Rattle.std.proofs.lemmas.Grind.{common_steps}
 use Rattle.bean_words.specs.Names.{IsName}
@@ -6,11 +6,13 @@ use Rattle.chronicle_text.proofs.texts.Texts.{front_kept}
 use Rattle.chronicle_text.proofs.spelling.ValueLists.{all_next, all_through}
 use Rattle.chronicle_text.proofs.append.append_names.Goals as goal
 
-pub returns-in_err-append_word-clause-front : goal.returns-in_err-append_word-clause-front
-returns-in_err-append_word-clause-front c =
-    front_kept c.args.out.now.items
-    (spaced (take c.loop-name.name-index c.args.names.now)) c.loop-name.out.items c.append_word.new.out.items _ _
-    c.args.out.now.ok.0 c.loop-name.out.ok.0 c.loop-name.invariant.told c.append_word.ensures.front
+pub returns-in_err-append_word-clause-ok : goal.returns-in_err-append_word-clause-ok
+returns-in_err-append_word-clause-ok c = (
+  search rules,
+  front_kept c.args.out.now.items
+      (spaced (take c.loop-name.name-index c.args.names.now)) c.loop-name.out.items c.append_word.new.out.items _ _
+      c.args.out.now.ok.0 c.loop-name.out.ok.0 c.loop-name.invariant.told c.append_word.ensures.ok.1,
+)
 
 pub loop-name-preserved : goal.loop-name-preserved
 loop-name-preserved c = record {

@@ -32,11 +32,11 @@ returns-then-ne c =
     (ap entry_of_words (sym c.new.ensures) ∙ sym c.in_ok-entry.ensures ∙ c.in-Some-2.is)
     (λ same. not_true _ c.if-ne.ensures
     ((bytes_eq-Decides c.as_slice-2.result.now c.args.line.now).1
-    (c.as_slice-2.ensures.value ∙ c.in_ok-append_entry.ensures.ok ∙ ap (λ t. t ++ entry_line c.in-Some-2.entry) c.new-written.ensures.items ∙ same)))
+    (c.as_slice-2.ensures.value ∙ c.in_ok-append_entry.ensures.ok.0 ∙ ap (λ t. t ++ entry_line c.in-Some-2.entry) c.new-written.ensures.items ∙ same)))
 
 pub returns : goal.returns
 returns c =
     says_it c.args.line.now c.in-Some.words.now c.in-Some-2.entry
     (ap entry_of_words (sym c.new.ensures) ∙ sym c.in_ok-entry.ensures ∙ c.in-Some-2.is)
-    (sym (ap (λ t. t ++ entry_line c.in-Some-2.entry) c.new-written.ensures.items) ∙ sym c.in_ok-append_entry.ensures.ok ∙ sym c.as_slice-2.ensures.value
+    (sym (ap (λ t. t ++ entry_line c.in-Some-2.entry) c.new-written.ensures.items) ∙ sym c.in_ok-append_entry.ensures.ok.0 ∙ sym c.as_slice-2.ensures.value
     ∙ (bytes_eq-Decides c.as_slice-2.result.now c.args.line.now).0 (not_false _ c.if-ne.ensures))

@@ -1,4 +1,4 @@
-use Rattle.std.proofs.Common.{take, arith}
+use Rattle.std.proofs.Common.{take, arith, rules}
 use Rattle.std.proofs.lemmas.Grind.{common_steps}
 use Rattle.std.specs.List.{flat_map}
 use Rattle.chronicle_text.specs.Dump.{answer_line}
@@ -7,12 +7,14 @@ use Rattle.chronicle_text.proofs.texts.Texts.{front_kept}
 use Rattle.chronicle_text.proofs.spelling.ValueLists.{all_next, all_through}
 use Rattle.chronicle_text.proofs.writer.append_answers.Goals as goal
 
-pub returns-in_err-append_answer-clause-front : goal.returns-in_err-append_answer-clause-front
-returns-in_err-append_answer-clause-front c =
-    front_kept c.args.out.now.items
-    (flat_map answer_line (take c.loop-answer.answer-index c.args.answers.now)) c.loop-answer.out.items
-    c.append_answer.new.out.items _ _ c.args.out.now.ok.0 c.loop-answer.out.ok.0 c.loop-answer.invariant.told
-    c.append_answer.ensures.front
+pub returns-in_err-append_answer-clause-ok : goal.returns-in_err-append_answer-clause-ok
+returns-in_err-append_answer-clause-ok c = (
+  search rules,
+  front_kept c.args.out.now.items
+      (flat_map answer_line (take c.loop-answer.answer-index c.args.answers.now)) c.loop-answer.out.items
+      c.append_answer.new.out.items _ _ c.args.out.now.ok.0 c.loop-answer.out.ok.0 c.loop-answer.invariant.told
+      c.append_answer.ensures.ok.1,
+)
 
 pub loop-answer-preserved : goal.loop-answer-preserved
 loop-answer-preserved c = record {

@@ -50,20 +50,24 @@ slice_bounds-append_answers-end c =
     (drop (c.loop-submission.submission-index + 1) c.args.submitted.now) b in
     search rules
 
-pub returns-in_err-append_answers-clause-front : goal.returns-in_err-append_answers-clause-front
-returns-in_err-append_answers-clause-front c =
-    front_kept c.args.out.now.items c.loop-submission.invariant.grown.0 c.loop-submission.out.items
-    c.append_answers.new.out.items _ _ c.args.out.now.ok.0 c.loop-submission.out.ok.0
-    c.loop-submission.invariant.grown.1 c.append_answers.ensures.front
+pub returns-in_err-append_answers-clause-ok : goal.returns-in_err-append_answers-clause-ok
+returns-in_err-append_answers-clause-ok c = (
+  search rules,
+  front_kept c.args.out.now.items c.loop-submission.invariant.grown.0 c.loop-submission.out.items
+      c.append_answers.new.out.items _ _ c.args.out.now.ok.0 c.loop-submission.out.ok.0
+      c.loop-submission.invariant.grown.1 c.append_answers.ensures.ok.1,
+)
 
-pub returns-in_err-append_submission-clause-front : goal.returns-in_err-append_submission-clause-front
-returns-in_err-append_submission-clause-front c =
-    let told = c.in_ok-append_answers.ensures.ok in
-    let grown = c.loop-submission.invariant.grown in
-    front_kept c.args.out.now.items _ c.append_answers.new.out.items c.append_submission.new.out.items _ _
-    c.args.out.now.ok.0 c.append_answers.new.out.ok.0
-    (grow c.args.out.now.items grown.0 c.loop-submission.out.items _ c.append_answers.new.out.items grown.1 told)
-    c.append_submission.ensures.front
+pub returns-in_err-append_submission-clause-ok : goal.returns-in_err-append_submission-clause-ok
+returns-in_err-append_submission-clause-ok c =
+    let told = c.in_ok-append_answers.ensures.ok.0 in
+    let grown = c.loop-submission.invariant.grown in (
+      search rules,
+      front_kept c.args.out.now.items _ c.append_answers.new.out.items c.append_submission.new.out.items _ _
+          c.args.out.now.ok.0 c.append_answers.new.out.ok.0
+          (grow c.args.out.now.items grown.0 c.loop-submission.out.items _ c.append_answers.new.out.items grown.1 told)
+          c.append_submission.ensures.ok.1,
+    )
 
 pub loop-submission-preserved : goal.loop-submission-preserved
 loop-submission-preserved c =
@@ -77,8 +81,8 @@ loop-submission-preserved c =
     let high = most given (length answers) s rest b in
     let lines = lines_from given s rest answers b low high in
     let cut = drop_item c.args.submitted.now c.loop-submission.submission-index s c.loop-submission-test.true c.submission-item.is in
-    let wrote = c.in_ok-append_submission.ensures.ok in
-    let told = c.in_ok-append_answers.ensures.ok in
+    let wrote = c.in_ok-append_submission.ensures.ok.0 in
+    let told = c.in_ok-append_answers.ensures.ok.0 in
     let grown = c.loop-submission.invariant.grown in
     let said = flat_map answer_line (take (s.after - given) (drop given answers)) in
     let later = flat_map happening_line (happenings_from s.after rest (drop s.after answers)) in
@@ -111,16 +115,14 @@ returns-clause-ok c =
     let all = ap (λ t. c.loop-submission.out.items ++ t)
     (sym left ∙ sym (ap (λ d. flat_map happening_line (happenings_from given d (drop given answers))) none)) ∙
     c.loop-submission.invariant.told in
-    let rest = take_all (length answers - given) (drop given answers) (omega (arith, length-drop given answers)) in
-    on_ok_weaker c.append_answers-2.result
-    (λ wrote. wrote ∙ ap (λ a. c.loop-submission.out.items ++ flat_map answer_line a) rest ∙ all)
-    c.append_answers-2.ensures.ok
-
-pub returns-clause-front : goal.returns-clause-front
-returns-clause-front c =
-    front_kept c.args.out.now.items c.loop-submission.invariant.grown.0 c.loop-submission.out.items
-    c.append_answers-2.new.out.items _ _ c.args.out.now.ok.0 c.loop-submission.out.ok.0
-    c.loop-submission.invariant.grown.1 c.append_answers-2.ensures.front
+    let rest = take_all (length answers - given) (drop given answers) (omega (arith, length-drop given answers)) in (
+      on_ok_weaker c.append_answers-2.result
+          (λ wrote. wrote ∙ ap (λ a. c.loop-submission.out.items ++ flat_map answer_line a) rest ∙ all)
+          c.append_answers-2.ensures.ok.0,
+      front_kept c.args.out.now.items c.loop-submission.invariant.grown.0 c.loop-submission.out.items
+          c.append_answers-2.new.out.items _ _ c.args.out.now.ok.0 c.loop-submission.out.ok.0
+          c.loop-submission.invariant.grown.1 c.append_answers-2.ensures.ok.1,
+    )
 
 pub returns-clause-submitted : goal.returns-clause-submitted
 returns-clause-submitted c =

@@ -16,7 +16,8 @@ returns-in-Some c =
     ap (λ h. set_to c.as_job-job.result.now.pri c.args.state h c.in-Some.stored.now) c.marked-history.ensures ∙
     ap (λ (j : Job). set_to j.pri c.args.state (after_mark c.args.mark j.history) c.in-Some.stored.now) c.as_job-job.ensures) ∙
     (c.get_mut.follows.holds (marked c.args.state c.args.mark c.in-Some.stored.now)).0 ∙
-    set_value-altered c.args.id _ _ (marked c.args.state c.args.mark) c.in-Some.stored.now _ c.args.jobs.now.entries c.requires (sym c.in-Some.ensures.value) refl
+    set_value-altered c.args.id _ _ (marked c.args.state c.args.mark) c.in-Some.stored.now _ c.args.jobs.now.entries c.requires
+    (sym c.in-Some.ensures.value) refl
 
 pub returns-in_default : goal.returns-in_default
 returns-in_default c =

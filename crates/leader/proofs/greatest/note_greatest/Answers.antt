@@ -17,7 +17,7 @@ loop-pvalue-preserved g c =
     c.args.greatest.now now c.if-lt.greatest c.loop-pvalue.invariant in
     elim c.if-lt.branch [
       | then-lt+in_ok-insert w ↦ next
-          (w.greatest-is ∙ w.in_ok-insert.ensures.ok ∙ ap (λ b. cond b (insert now p.slot p.ballot) now)
+          (w.greatest-is ∙ w.in_ok-insert.ensures.ok.0 ∙ ap (λ b. cond b (insert now p.slot p.ballot) now)
           (sym (test ∙ w.if-lt.true)))
       | else-lt w ↦ next (w.greatest-is ∙ ap (λ b. cond b (insert now p.slot p.ballot) now) (sym (test ∙ w.if-lt.false)))
     ]

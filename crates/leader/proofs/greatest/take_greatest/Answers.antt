@@ -24,7 +24,7 @@ loop-pvalue-preserved g c =
           let yes : (promised && not contained) ≡ true =
           ap (λ b. b && not contained) (test ∙ w.if-eq.true) ∙ ap not
           (sym w.contains.ensures ∙ w.if-not-contains.true) in
-          next (w.taken-is ∙ w.in_ok-insert.ensures.ok ∙ ap (λ v. insert now p.slot v) w.in_ok-copy.ensures ∙ ap chosen (sym yes))
+          next (w.taken-is ∙ w.in_ok-insert.ensures.ok.0 ∙ ap (λ v. insert now p.slot v) w.in_ok-copy.ensures ∙ ap chosen (sym yes))
       | else-eq w ↦
           elim w.else-eq.branch [
             | else-eq-via-then-eq+else-not-contains v ↦

@@ -11,7 +11,7 @@ pub loop-slot-preserved-in_ok-insert : goal.loop-slot-preserved-in_ok-insert
 loop-slot-preserved-in_ok-insert g c = λ s.
     open_taken deref_pair c.loop-slot.yielded (c.in-Some.slot, c.in-Some.command) c.args.taken.now c.loop-slot.taken s c.insert.new.self
     (sym c.contains.ensures ∙ c.if-not-contains.true)
-    (c.in_ok-insert.ensures.ok ∙ ap (λ v. insert c.loop-slot.taken c.in-Some.slot.now v) c.in_ok-copy.ensures)
+    (c.in_ok-insert.ensures.ok.0 ∙ ap (λ v. insert c.loop-slot.taken c.in-Some.slot.now v) c.in_ok-copy.ensures)
     (c.loop-slot.invariant s)
 
 pub loop-slot-preserved : goal.loop-slot-preserved

@@ -22,7 +22,7 @@ returns-clause-ok g c =
     let among = subst (λ z. IsAmong z c.args.id) (sym c.sort.ensures.size) c.requires.among in
     repeated_was _ c.from-place.ensures among c.index.result.now c.index.ensures
     c.sort.new.fresh.items c.in_ok-sort.ensures.ok _ c.sort.ensures.same c.in-Some.letter (sym c.in_ok-letter.ensures ∙ c.in-Some.is)
-    c.push.new.self (c.in_ok-push.ensures.ok ∙ ap (λ z. z ++ (c.in-Some.letter ∷ []))
+    c.push.new.self (c.in_ok-push.ensures.ok.0 ∙ ap (λ z. z ++ (c.in-Some.letter ∷ []))
     (read_same _ c.from-place.ensures among c.index.result.now c.index.ensures c.index_mut.result.now c.index_mut.ensures.value))
 
 pub returns-clause-post : goal.returns-clause-post
@@ -30,5 +30,5 @@ returns-clause-post g c =
     let among = subst (λ z. IsAmong z c.args.id) (sym c.sort.ensures.size) c.requires.among in
     more_post _ c.from-place.ensures among c.index.result.now c.index.ensures
     c.sort.new.fresh.items c.sort.ensures.post c.in-Some.letter (sym c.in_ok-letter.ensures ∙ c.in-Some.is)
-    c.push.new.self (c.in_ok-push.ensures.ok ∙ ap (λ z. z ++ (c.in-Some.letter ∷ []))
+    c.push.new.self (c.in_ok-push.ensures.ok.0 ∙ ap (λ z. z ++ (c.in-Some.letter ∷ []))
     (read_same _ c.from-place.ensures among c.index.result.now c.index.ensures c.index_mut.result.now c.index_mut.ensures.value))

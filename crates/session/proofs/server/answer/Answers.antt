@@ -15,5 +15,5 @@ returns-in_ok-reply-in-Ok-clause-ok g c = (
   Replied c.in-Ok.reply,
   subst (λ r. g.S.Service.asks c.args.service.now c.args.op r c.ask.new.self) c.in-Ok.is
       c.ask.ensures,
-  c.in_ok-reply-in-Ok.ensures.ok,
+  c.in_ok-reply-in-Ok.ensures.ok.0,
 )

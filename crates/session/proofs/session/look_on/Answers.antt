@@ -55,7 +55,7 @@ items-preserved c =
     let item : Continues p c.items.next c.split_at.result.1.now (Err c.in-Bad.fault, c.in-Bad.used) =
     subst (TellsItem p c.items.next c.split_at.result.1.now) c.in-Bad.is c.in_ok-read_request_in.ensures.item in
     let some = item_fits p _ c.args.bytes.now _ c.items.at _ _ c.split_at.ensures.back item c.items.invariant.keeps in
-    let written = c.in_ok-write_fault-in-Bad.ensures.ok in
+    let written = c.in_ok-write_fault-in-Bad.ensures.ok.0 in
     record {
       within = within c.args.bytes.now _ c.items.at _ c.split_at.ensures.back c.items.invariant.within some;
       front = still_front _ _ _ _ _ written c.items.invariant.longer c.items.invariant.front;

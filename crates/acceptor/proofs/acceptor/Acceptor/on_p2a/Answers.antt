@@ -41,5 +41,6 @@ returns-clause-state g c =
     (ap (λ (a : Acceptances _). a.accepted) (sym c.self.view_is))
     (ap (λ (a : Acceptances _). a.promised) c.self.view_is)
     refl
-    (subst (λ (n : Slots (Accepted g.row.C.Denot)). IsReport (map pvalue_of (entries m) ++ p ∷ []) (map pvalue_of (entries n))) (sym c.in_ok-insert.ensures.ok)
+    (subst (λ (n : Slots (Accepted g.row.C.Denot)). IsReport (map pvalue_of (entries m) ++ p ∷ []) (map pvalue_of (entries n)))
+    (sym c.in_ok-insert.ensures.ok.0)
     (report_of_put m p.slot x (ap (λ o. is_higher o p.ballot) (sym c.get.ensures) ∙ sym c.is_higher.ensures ∙ c.if-is_higher.false)))

@@ -9,7 +9,7 @@ use Rattle.ballot.proofs.slot_map.SlotMap.copy.Goals as goal
 
 pub loop-slot-preserved : goal.loop-slot-preserved
 loop-slot-preserved g c =
-    c.in_ok-insert.ensures.ok ∙
+    c.in_ok-insert.ensures.ok.0 ∙
     ap₂ (λ m v. insert m c.in-Some.slot.now v) c.loop-slot.invariant c.in_ok-copy.ensures ∙
     turn deref_pair (λ k v. v) c.self.inside.entries.entries c.loop-slot.yielded c.into_iter-slot-iterator.result
     c.loop-slot.slot-iterator c.next.new.self c.next.result

@@ -19,7 +19,7 @@ returns-in-Some g c =
     let s = state_of c.self.inside.counters c.self.inside.jobs.now c.self.inside.sessions.now c.self.inside.pauses.now.pauses c.self.inside.tubes.now in
     let there : Some c.in-Some.gone ≡ value_at x s.sessions = sym c.in-Some.is ∙ c.remove_for_good.ensures.gone in
     c.settle_all.ensures ∙
-    ap₂ settled c.as_slice.ensures (c.settle.ensures ∙ ap (λ es. settled (c.in-Some.gone.used ∷ []) (with_sessions s es)) c.remove_for_good.ensures.now) ∙
+    ap₂ settled c.as_slice.ensures (c.settle.ensures ∙ ap (λ es. settled (c.in-Some.gone.used ∷ []) (with_sessions s es)) c.remove_for_good.ensures.kept.now) ∙
     settled-then c.in-Some.gone.used c.in-Some.gone.watched (with_sessions s (without x s.sessions)) ∙
     ap (λ o. settled (tubes_in o) (with_sessions s (without x s.sessions))) there ∙
     ap (λ (d : Draft QueueState). forgotten x d.now) c.self.view_is
@@ -29,7 +29,7 @@ returns-in_default g c =
     let x = c.args.session in
     let s = state_of c.self.inside.counters c.self.inside.jobs.now c.self.inside.sessions.now c.self.inside.pauses.now.pauses c.self.inside.tubes.now in
     let absent : None ≡ value_at x s.sessions = sym c.in_default.is ∙ c.remove_for_good.ensures.gone in
-    ap (with_sessions s) c.remove_for_good.ensures.now ∙
+    ap (with_sessions s) c.remove_for_good.ensures.kept.now ∙
     sym (settled-default (with_sessions s (without x s.sessions))) ∙
     ap (λ o. settled (tubes_in o) (with_sessions s (without x s.sessions))) absent ∙
     ap (λ (d : Draft QueueState). forgotten x d.now) c.self.view_is

@@ -12,7 +12,7 @@ returns g c =
     let s = state_of c.self.inside.counters c.self.inside.jobs.now c.self.inside.sessions.now c.self.inside.pauses.now.pauses c.self.inside.tubes.now in
     let left : c.in_ok-left.left ≡ used_by c.args.self.now.now x = c.in_ok-left.ensures ∙ ap (λ (t : SessionState). t.used) c.session.ensures in
     let moved : with_sessions s c.use_tube_for_good.new.self.now ≡ with_session c.args.self.now.now x (λ t. record t { used = c.args.tube.now }) =
-    ap (with_sessions s) c.in_ok-use_tube_for_good.ensures.now ∙
+    ap (with_sessions s) c.in_ok-use_tube_for_good.ensures.kept.now ∙
     ap (λ name. with_session s x (λ t. record t { used = name })) c.in_ok-copy.ensures ∙
     ap (λ (d : Draft QueueState). with_session d.now x (λ t. record t { used = c.args.tube.now })) c.self.view_is in
     record {

@@ -16,10 +16,12 @@ again-smaller g c = (one_more c.args.self _ _ _ _ (c.in-Some.id, c.in-Some.job.n
 
 pub again-preserved : goal.again-preserved
 again-preserved g c =
-    let one = one_more c.args.self _ _ _ _ (c.in-Some.id, c.in-Some.job.now) c.map.ensures.rising (cc c.in-Some.ensures) c.mark-mark.result c.mark-mark.ensures c.in_ok-set_state.ensures.now in
+    let one = one_more c.args.self _ _ _ _ (c.in-Some.id, c.in-Some.job.now) c.map.ensures.rising (cc c.in-Some.ensures) c.mark-mark.result
+    c.mark-mark.ensures c.in_ok-set_state.ensures.now in
     record {
       all = one.all ∙ c.again.invariant.all;
-      woken = gathered _ _ _ _ (c.in-Some.id, c.in-Some.job.now) c.again.woken.keys _ _ (marked State.Ready c.mark-mark.result) (λ job. refl) c.map.ensures.rising one.there
+      woken = gathered _ _ _ _ (c.in-Some.id, c.in-Some.job.now) c.again.woken.keys _ _ (marked State.Ready c.mark-mark.result)
+          (λ job. refl) c.map.ensures.rising one.there
           c.in_ok-set_state.ensures.now c.in_ok-copy.ensures c.in_ok-insert.ensures.keys c.again.invariant.woken;
       before = c.set_state.ensures.before ∙ c.again.invariant.before;
       counted = one_counted _ _ _ _ _ (search rules) one.out ∙ c.again.invariant.counted;

@@ -19,5 +19,7 @@ returns c =
     (written c.args.self.now c.number-3.new.self c.number-4.new.self _ _
     (written c.args.self.now c.number-2.new.self c.number-3.new.self _ _
     (written c.args.self.now c.number.new.self c.number-2.new.self _ _
-    (c.in_ok-number.ensures) c.in_ok-number-2.ensures) c.in_ok-number-3.ensures) c.in_ok-number-4.ensures) c.in_ok-number-5.ensures) c.in_ok-number-6.ensures) c.in_ok-number-7.ensures) c.in_ok-number-8.ensures) c.in_ok-number-9.ensures) c.in_ok-number-10.ensures) c.in_ok-number-11.ensures) c.in_ok-number-12.ensures) last)
+    (c.in_ok-number.ensures) c.in_ok-number-2.ensures) c.in_ok-number-3.ensures) c.in_ok-number-4.ensures) c.in_ok-number-5.ensures)
+    c.in_ok-number-6.ensures) c.in_ok-number-7.ensures) c.in_ok-number-8.ensures) c.in_ok-number-9.ensures) c.in_ok-number-10.ensures)
+    c.in_ok-number-11.ensures) c.in_ok-number-12.ensures) last)
     c.number-13.ensures

@@ -11,9 +11,13 @@ invariant_of-self-2 g c = subst HasOwnCommands
     ∙ ap (insert (from_entries c.self.inside.clients.entries) c.args.session) c.new.ensures))
     (own_new _ c.args.session c.self.invariant)
 
-pub returns-clause-ok : goal.returns-clause-ok
-returns-clause-ok g c =
+pub returns : goal.returns
+returns g c = record {
+  ok = (
     with_same _ _ c.self.inside.submitted c.self.inside.answered c.self.inside.placed
-    (put_at c.self.inside.clients.entries c.insert.new.self.entries c.args.session c.new.result c.in_ok-insert.ensures.updates.0
-    ∙ ap (insert (from_entries c.self.inside.clients.entries) c.args.session) c.new.ensures)
-    ∙ ap (λ (s : Summary _ _). record s { clients = insert s.clients c.args.session new_client }) c.self.view_is
+        (put_at c.self.inside.clients.entries c.insert.new.self.entries c.args.session c.new.result c.in_ok-insert.ensures.updates.0
+        ∙ ap (insert (from_entries c.self.inside.clients.entries) c.args.session) c.new.ensures)
+        ∙ ap (λ (s : Summary _ _). record s { clients = insert s.clients c.args.session new_client }) c.self.view_is,
+    tt,
+  );
+}

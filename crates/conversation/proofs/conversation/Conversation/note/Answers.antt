@@ -10,7 +10,7 @@ returns-in_err-reply-clause-noted g c =
     notes_refused g.T.SessionTicket.keeping _ (g.D.Desk.to_note c.args.desk.now c.args.self.now.ticket) _ _ c.from_residual-in_err-reply.result
     c.from_residual-in_err-reply.ensures.0 asked
     ((λ i. record {
-      session = c.in_err-reply.ensures.err i;
+      session = c.in_err-reply.ensures.ok.1 i;
       ticket = c.in_ok-note.ensures.noted i;
       stage = c.self.inside.stage;
       has_ended = c.self.inside.has_ended;
@@ -18,7 +18,8 @@ returns-in_err-reply-clause-noted g c =
 
 pub returns-in_err-reply-clause-goes : goal.returns-in_err-reply-clause-goes
 returns-in_err-reply-clause-goes g c = λ fed given.
-    goes_noting g.T.SessionTicket.keeping g.met.T.SessionTicket.keeps fed given _ _ _ c.from_residual-in_err-reply.result (returns-in_err-reply-clause-noted g c)
+    goes_noting g.T.SessionTicket.keeping g.met.T.SessionTicket.keeps fed given _ _ _ c.from_residual-in_err-reply.result
+    (returns-in_err-reply-clause-noted g c)
 
 pub returns-in_default-noted-clause-goes : goal.returns-in_default-noted-clause-goes
 returns-in_default-noted-clause-goes g c = λ fed given.

@@ -18,7 +18,15 @@ use Rattle.forgetting_hall.proofs.forgetting_hall.ForgettingHall.deliver.Goals a
 pub deliver-requires-clause-fit : goal.deliver-requires-clause-fit
 deliver-requires-clause-fit g c = λ l left at was.
     let h : ForgettingState _ _ _ =
-    record { network = c.self.inside.network; base = c.self.inside.base; summary = c.self.inside.clients; opened = c.self.inside.opened; reach = c.self.inside.reach; taken = c.self.inside.taken; gathering = record { is_on = c.self.inside.gathers; commands = c.self.inside.gathered.items } } in
+    record {
+      network = c.self.inside.network;
+      base = c.self.inside.base;
+      summary = c.self.inside.clients;
+      opened = c.self.inside.opened;
+      reach = c.self.inside.reach;
+      taken = c.self.inside.taken;
+      gathering = record { is_on = c.self.inside.gathers; commands = c.self.inside.gathered.items };
+    } in
     let none : refusal_of_event h c.args.node ≡ None =
     subst (λ q. refusal_of_event q c.args.node ≡ None) (sym c.self.view_is) (sym c.refusal_of_event.ensures ∙ c.in_default.is) in
     subst (λ x. IsFit x left) (state_at g.O.Object.rules h.network c.args.node)
@@ -28,7 +36,15 @@ deliver-requires-clause-fit g c = λ l left at was.
 pub invariant_of-self-then-is_received : goal.invariant_of-self-then-is_received
 invariant_of-self-then-is_received g c =
     let h : ForgettingState _ _ _ =
-    record { network = c.self.inside.network; base = c.self.inside.base; summary = c.self.inside.clients; opened = c.self.inside.opened; reach = c.self.inside.reach; taken = c.self.inside.taken; gathering = record { is_on = c.self.inside.gathers; commands = c.self.inside.gathered.items } } in
+    record {
+      network = c.self.inside.network;
+      base = c.self.inside.base;
+      summary = c.self.inside.clients;
+      opened = c.self.inside.opened;
+      reach = c.self.inside.reach;
+      taken = c.self.inside.taken;
+      gathering = record { is_on = c.self.inside.gathers; commands = c.self.inside.gathered.items };
+    } in
     let none : refusal_of_event h c.args.node ≡ None =
     subst (λ q. refusal_of_event q c.args.node ≡ None) (sym c.self.view_is) (sym c.refusal_of_event.ensures ∙ c.in_default.is) in
     let got = received_from h.base (front (lean_mail_of h.network c.args.node))
@@ -42,7 +58,15 @@ invariant_of-self-then-is_received g c =
 pub invariant_of-self-else-is_received : goal.invariant_of-self-else-is_received
 invariant_of-self-else-is_received g c =
     let h : ForgettingState _ _ _ =
-    record { network = c.self.inside.network; base = c.self.inside.base; summary = c.self.inside.clients; opened = c.self.inside.opened; reach = c.self.inside.reach; taken = c.self.inside.taken; gathering = record { is_on = c.self.inside.gathers; commands = c.self.inside.gathered.items } } in
+    record {
+      network = c.self.inside.network;
+      base = c.self.inside.base;
+      summary = c.self.inside.clients;
+      opened = c.self.inside.opened;
+      reach = c.self.inside.reach;
+      taken = c.self.inside.taken;
+      gathering = record { is_on = c.self.inside.gathers; commands = c.self.inside.gathered.items };
+    } in
     stays g.O.Object.rules h (record h { network = c.deliver.new.self }) c.self.invariant
     (dropped_still g.O.Object.rules h c.args.node c.halls_rest.ensures.loses c.deliver.new.self
     (ap is_received (sym c.in_ok-receipt.ensures.came) ∙ sym c.is_received.ensures ∙ c.if-is_received.false)
@@ -51,19 +75,38 @@ invariant_of-self-else-is_received g c =
 pub returns-then-is_received-clause-ok : goal.returns-then-is_received-clause-ok
 returns-then-is_received-clause-ok g c =
     let h : ForgettingState _ _ _ =
-    record { network = c.self.inside.network; base = c.self.inside.base; summary = c.self.inside.clients; opened = c.self.inside.opened; reach = c.self.inside.reach; taken = c.self.inside.taken; gathering = record { is_on = c.self.inside.gathers; commands = c.self.inside.gathered.items } } in
-    subst (λ (q : ForgettingState _ _ _). (l : Letter (Command g.row.O-Op.Denot)) (left : LetterBody (Command g.row.O-Op.Denot)) → front (lean_mail_of q.network c.args.node) ≡ Some l
+    record {
+      network = c.self.inside.network;
+      base = c.self.inside.base;
+      summary = c.self.inside.clients;
+      opened = c.self.inside.opened;
+      reach = c.self.inside.reach;
+      taken = c.self.inside.taken;
+      gathering = record { is_on = c.self.inside.gathers; commands = c.self.inside.gathered.items };
+    } in
+    subst (λ (q : ForgettingState _ _ _). (l : Letter (Command g.row.O-Op.Denot)) (left : LetterBody (Command g.row.O-Op.Denot)) →
+    front (lean_mail_of q.network c.args.node) ≡ Some l
     → rest_of_body q.base l.body ≡ Some left
-    → IsReceivedRest (rest_of_hall g.O.Object.rules q) c.args.node l left (rest_of_hall g.O.Object.rules (record h { network = c.deliver.new.self; taken = h.taken + 1 }))) c.self.view_is
+    → IsReceivedRest (rest_of_hall g.O.Object.rules q) c.args.node l left (rest_of_hall g.O.Object.rules
+    (record h { network = c.deliver.new.self; taken = h.taken + 1 }))) c.self.view_is
     (λ l left at was. received_is g.O.Object.rules h c.args.node l left c.deliver.new.self (c.in_ok-receipt.ensures.received l left at was))
 
 pub returns-then-is_received-clause-event : goal.returns-then-is_received-clause-event
 returns-then-is_received-clause-event g c =
     let h : ForgettingState _ _ _ =
-    record { network = c.self.inside.network; base = c.self.inside.base; summary = c.self.inside.clients; opened = c.self.inside.opened; reach = c.self.inside.reach; taken = c.self.inside.taken; gathering = record { is_on = c.self.inside.gathers; commands = c.self.inside.gathered.items } } in
+    record {
+      network = c.self.inside.network;
+      base = c.self.inside.base;
+      summary = c.self.inside.clients;
+      opened = c.self.inside.opened;
+      reach = c.self.inside.reach;
+      taken = c.self.inside.taken;
+      gathering = record { is_on = c.self.inside.gathers; commands = c.self.inside.gathered.items };
+    } in
     let none : refusal_of_event h c.args.node ≡ None =
     subst (λ q. refusal_of_event q c.args.node ≡ None) (sym c.self.view_is) (sym c.refusal_of_event.ensures ∙ c.in_default.is) in
-    subst (λ (q : ForgettingState _ _ _). (l : Letter (Command g.row.O-Op.Denot)) (left : LetterBody (Command g.row.O-Op.Denot)) → front (lean_mail_of q.network c.args.node) ≡ Some l
+    subst (λ (q : ForgettingState _ _ _). (l : Letter (Command g.row.O-Op.Denot)) (left : LetterBody (Command g.row.O-Op.Denot)) →
+    front (lean_mail_of q.network c.args.node) ≡ Some l
     → rest_of_body q.base l.body ≡ Some left
     → FollowsLeft g.O.Object.rules q c.args.node l left (record h { network = c.deliver.new.self; taken = h.taken + 1 })) c.self.view_is
     (λ l left at was. left_follows g.O.Object.rules h c.args.node c.halls_rest.ensures.receives (event_member h c.args.node none)
@@ -72,7 +115,15 @@ returns-then-is_received-clause-event g c =
 pub returns-else-is_received-clause-still : goal.returns-else-is_received-clause-still
 returns-else-is_received-clause-still g c =
     let h : ForgettingState _ _ _ =
-    record { network = c.self.inside.network; base = c.self.inside.base; summary = c.self.inside.clients; opened = c.self.inside.opened; reach = c.self.inside.reach; taken = c.self.inside.taken; gathering = record { is_on = c.self.inside.gathers; commands = c.self.inside.gathered.items } } in
+    record {
+      network = c.self.inside.network;
+      base = c.self.inside.base;
+      summary = c.self.inside.clients;
+      opened = c.self.inside.opened;
+      reach = c.self.inside.reach;
+      taken = c.self.inside.taken;
+      gathering = record { is_on = c.self.inside.gathers; commands = c.self.inside.gathered.items };
+    } in
     subst (λ (q : ForgettingState _ _ _). (l : Letter (Command g.row.O-Op.Denot)) → front (lean_mail_of q.network c.args.node) ≡ Some l
     → rest_of_body q.base l.body ≡ None → ShowsStill g.O.Object.rules q (record h { network = c.deliver.new.self })) c.self.view_is
     (λ l at was. dropped_still g.O.Object.rules h c.args.node c.halls_rest.ensures.loses c.deliver.new.self
@@ -82,7 +133,15 @@ returns-else-is_received-clause-still g c =
 pub returns-else-is_received-clause-forgotten : goal.returns-else-is_received-clause-forgotten
 returns-else-is_received-clause-forgotten g c =
     let h : ForgettingState _ _ _ =
-    record { network = c.self.inside.network; base = c.self.inside.base; summary = c.self.inside.clients; opened = c.self.inside.opened; reach = c.self.inside.reach; taken = c.self.inside.taken; gathering = record { is_on = c.self.inside.gathers; commands = c.self.inside.gathered.items } } in
+    record {
+      network = c.self.inside.network;
+      base = c.self.inside.base;
+      summary = c.self.inside.clients;
+      opened = c.self.inside.opened;
+      reach = c.self.inside.reach;
+      taken = c.self.inside.taken;
+      gathering = record { is_on = c.self.inside.gathers; commands = c.self.inside.gathered.items };
+    } in
     subst (λ (q : ForgettingState _ _ _). (l : Letter (Command g.row.O-Op.Denot)) → front (lean_mail_of q.network c.args.node) ≡ Some l
     → rest_of_body q.base l.body ≡ None
     → rest_of_hall g.O.Object.rules (record h { network = c.deliver.new.self }) ≡ lost_rest (rest_of_hall g.O.Object.rules q) c.args.node) c.self.view_is

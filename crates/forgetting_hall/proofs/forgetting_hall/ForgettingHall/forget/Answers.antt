@@ -8,7 +8,15 @@ use Rattle.forgetting_hall.proofs.forgetting_hall.ForgettingHall.forget.Goals as
 pub forget-requires : goal.forget-requires
 forget-requires g c = λ n member.
     let h : ForgettingState _ _ _ =
-    record { network = c.self.inside.network; base = c.self.inside.base; summary = c.self.inside.clients; opened = c.self.inside.opened; reach = c.self.inside.reach; taken = c.self.inside.taken; gathering = record { is_on = c.self.inside.gathers; commands = c.self.inside.gathered.items } } in
+    record {
+      network = c.self.inside.network;
+      base = c.self.inside.base;
+      summary = c.self.inside.clients;
+      opened = c.self.inside.opened;
+      reach = c.self.inside.reach;
+      taken = c.self.inside.taken;
+      gathering = record { is_on = c.self.inside.gathers; commands = c.self.inside.gathered.items };
+    } in
     let least : IsLeastOut g.O.Object.rules h c.least_out-base.result =
     subst (λ q. IsLeastOut g.O.Object.rules q c.least_out-base.result) (sym c.self.view_is) c.least_out-base.ensures in
     least.least n member
@@ -21,7 +29,15 @@ returns-then-base-self-clause-forgotten g c =
 pub invariant_of-self : goal.invariant_of-self
 invariant_of-self g c =
     let h : ForgettingState _ _ _ =
-    record { network = c.self.inside.network; base = c.self.inside.base; summary = c.self.inside.clients; opened = c.self.inside.opened; reach = c.self.inside.reach; taken = c.self.inside.taken; gathering = record { is_on = c.self.inside.gathers; commands = c.self.inside.gathered.items } } in
+    record {
+      network = c.self.inside.network;
+      base = c.self.inside.base;
+      summary = c.self.inside.clients;
+      opened = c.self.inside.opened;
+      reach = c.self.inside.reach;
+      taken = c.self.inside.taken;
+      gathering = record { is_on = c.self.inside.gathers; commands = c.self.inside.gathered.items };
+    } in
     let least : IsLeastOut g.O.Object.rules h c.least_out-base.result =
     subst (λ q. IsLeastOut g.O.Object.rules q c.least_out-base.result) (sym c.self.view_is) c.least_out-base.ensures in
     stays g.O.Object.rules h (record h { network = c.forget.new.self; base = c.least_out-base.result }) c.self.invariant
@@ -31,14 +47,30 @@ invariant_of-self g c =
 pub returns-clause-forgotten : goal.returns-clause-forgotten
 returns-clause-forgotten g c =
     let h : ForgettingState _ _ _ =
-    record { network = c.self.inside.network; base = c.self.inside.base; summary = c.self.inside.clients; opened = c.self.inside.opened; reach = c.self.inside.reach; taken = c.self.inside.taken; gathering = record { is_on = c.self.inside.gathers; commands = c.self.inside.gathered.items } } in
+    record {
+      network = c.self.inside.network;
+      base = c.self.inside.base;
+      summary = c.self.inside.clients;
+      opened = c.self.inside.opened;
+      reach = c.self.inside.reach;
+      taken = c.self.inside.taken;
+      gathering = record { is_on = c.self.inside.gathers; commands = c.self.inside.gathered.items };
+    } in
     forgotten_is g.O.Object.rules h c.least_out-base.result c.forget.new.self c.forget.ensures
     ∙ ap (λ q. forgotten_rest (rest_of_hall g.O.Object.rules q) c.least_out-base.result) c.self.view_is
 
 pub returns-clause-still : goal.returns-clause-still
 returns-clause-still g c =
     let h : ForgettingState _ _ _ =
-    record { network = c.self.inside.network; base = c.self.inside.base; summary = c.self.inside.clients; opened = c.self.inside.opened; reach = c.self.inside.reach; taken = c.self.inside.taken; gathering = record { is_on = c.self.inside.gathers; commands = c.self.inside.gathered.items } } in
+    record {
+      network = c.self.inside.network;
+      base = c.self.inside.base;
+      summary = c.self.inside.clients;
+      opened = c.self.inside.opened;
+      reach = c.self.inside.reach;
+      taken = c.self.inside.taken;
+      gathering = record { is_on = c.self.inside.gathers; commands = c.self.inside.gathered.items };
+    } in
     let least : IsLeastOut g.O.Object.rules h c.least_out-base.result =
     subst (λ q. IsLeastOut g.O.Object.rules q c.least_out-base.result) (sym c.self.view_is) c.least_out-base.ensures in
     subst (λ q. ShowsStill g.O.Object.rules q (record h { network = c.forget.new.self; base = c.least_out-base.result })) c.self.view_is

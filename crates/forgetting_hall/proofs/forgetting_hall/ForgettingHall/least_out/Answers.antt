@@ -12,7 +12,15 @@ node-requires g c =
 pub loop-before-init : goal.loop-before-init
 loop-before-init g c =
     let h : ForgettingState _ _ _ =
-    record { network = c.self.inside.network; base = c.self.inside.base; summary = c.self.inside.clients; opened = c.self.inside.opened; reach = c.self.inside.reach; taken = c.self.inside.taken; gathering = record { is_on = c.self.inside.gathers; commands = c.self.inside.gathered.items } } in
+    record {
+      network = c.self.inside.network;
+      base = c.self.inside.base;
+      summary = c.self.inside.clients;
+      opened = c.self.inside.opened;
+      reach = c.self.inside.reach;
+      taken = c.self.inside.taken;
+      gathering = record { is_on = c.self.inside.gathers; commands = c.self.inside.gathered.items };
+    } in
     let size : c.count-count.result ≡ length c.self.inside.network.members = c.count-count.ensures.count ∙ ap length c.members.ensures in
     let some = c.count-count.ensures.some in
     subst (λ q. IsLeastTo g.O.Object.rules q 1 c.slot_out-least.result) c.self.view_is
@@ -22,7 +30,15 @@ loop-before-init g c =
 pub loop-before-preserved : goal.loop-before-preserved
 loop-before-preserved g c =
     let h : ForgettingState _ _ _ =
-    record { network = c.self.inside.network; base = c.self.inside.base; summary = c.self.inside.clients; opened = c.self.inside.opened; reach = c.self.inside.reach; taken = c.self.inside.taken; gathering = record { is_on = c.self.inside.gathers; commands = c.self.inside.gathered.items } } in
+    record {
+      network = c.self.inside.network;
+      base = c.self.inside.base;
+      summary = c.self.inside.clients;
+      opened = c.self.inside.opened;
+      reach = c.self.inside.reach;
+      taken = c.self.inside.taken;
+      gathering = record { is_on = c.self.inside.gathers; commands = c.self.inside.gathered.items };
+    } in
     let size : c.count-count.result ≡ length c.self.inside.network.members = c.count-count.ensures.count ∙ ap length c.members.ensures in
     let below : c.loop-before.before < c.count-count.result = search rules in
     subst (λ q. IsLeastTo g.O.Object.rules q (c.loop-before.before + 1) c.min-least.result) c.self.view_is
@@ -35,7 +51,15 @@ loop-before-preserved g c =
 pub returns : goal.returns
 returns g c =
     let h : ForgettingState _ _ _ =
-    record { network = c.self.inside.network; base = c.self.inside.base; summary = c.self.inside.clients; opened = c.self.inside.opened; reach = c.self.inside.reach; taken = c.self.inside.taken; gathering = record { is_on = c.self.inside.gathers; commands = c.self.inside.gathered.items } } in
+    record {
+      network = c.self.inside.network;
+      base = c.self.inside.base;
+      summary = c.self.inside.clients;
+      opened = c.self.inside.opened;
+      reach = c.self.inside.reach;
+      taken = c.self.inside.taken;
+      gathering = record { is_on = c.self.inside.gathers; commands = c.self.inside.gathered.items };
+    } in
     let size : c.count-count.result ≡ length c.self.inside.network.members = c.count-count.ensures.count ∙ ap length c.members.ensures in
     let all : c.count-count.result ≤ c.loop-before.before = search rules in
     subst (λ q. IsLeastOut g.O.Object.rules q c.loop-before.least) c.self.view_is

@@ -27,7 +27,7 @@ invariant_of-self-2 g c =
       commanders = p.commanders;
     } in
     kept_scout p.node p.boot l c.on_p1b.new.self c.self.invariant
-    (subst (IsScoutOf l) (sym c.in_ok-on_p1b.ensures.state)
+    (subst (IsScoutOf l) (sym c.in_ok-on_p1b.ensures.state.0)
     (same_scout l s c.args.from p.ballot (fresh_of s c.on_p1b.new.self)
     (c.self.invariant.leader.scout s c.in-Some.is)))
 
@@ -45,5 +45,5 @@ returns-clause-hears g c = λ sent.
     let with : Option (Scouting g.row.C.Denot) → Leading g.row.C.Denot =
     λ scout. record { members = p.members; ballot = p.ballot; active = p.active; proposals = p.proposals; scout = scout; commanders = p.commanders } in
     waits_on l c.args.from c.args.report.now fresh sent s _ there (leads.scout s there) c.requires.member (c.requires.waits s there) takes
-    (ap (λ (x : Scouting g.row.C.Denot). with (Some x)) c.in_ok-on_p1b.ensures.state ∙
+    (ap (λ (x : Scouting g.row.C.Denot). with (Some x)) c.in_ok-on_p1b.ensures.state.0 ∙
     ap (λ (x : Leading g.row.C.Denot). record x { scout = Some (on_p1b s c.args.from x.ballot fresh).scout }) c.self.view_is)

@@ -16,4 +16,4 @@ returns-clause-taken g c =
     (subst (λ (ps : List (Pvalue g.row.C.Denot)). TakesGreatest c.self.inside.proposals ps c.in_ok-proposals.proposals) all c.in_ok-proposals.ensures) in
     on_ok_weaker c.lead.result
     (λ e. subst (λ ps. TakesGreatest c.args.self.now.proposals c.args.gathered.items ps)
-    (sym (ap (λ (x : Leading g.row.C.Denot). x.proposals) e)) greatest) c.lead.ensures.state
+    (sym (ap (λ (x : Leading g.row.C.Denot). x.proposals) e)) greatest) c.lead.ensures.state.0

@@ -21,7 +21,7 @@ loop-slot-preserved g c =
     let ask : ℕ × g.row.C.Denot → LetterBody g.row.C.Denot = λ e. P2a (pvalue c.args.self.now.ballot e.0 e.1) in
     record {
       commanders =
-          c.in_ok-start_commander.ensures.commander ∙
+          c.in_ok-start_commander.ensures.commander.0 ∙
           ap₂ (λ (m : Slots (Commanding g.row.C.Denot)) x. insert m s x) c.loop-slot.invariant.commanders
           (ap (λ v. new_commander p.members (pvalue p.ballot s v)) c.in_ok-copy.ensures ∙
           ap (λ (l : Leading g.row.C.Denot). new_commander l.members (pvalue l.ballot s c.in-Some.command.now)) c.self.view_is) ∙
@@ -32,7 +32,7 @@ loop-slot-preserved g c =
           said_next c.args.out.now.items c.loop-slot.out.items c.start_commander.new.out.items c.args.self.now.members
           c.args.self.now.ballot.node ask deref_pair c.loop-slot.yielded
           (c.in-Some.slot, c.in-Some.command) c.loop-slot.invariant.said
-          (c.in_ok-start_commander.ensures.out ∙
+          (c.in_ok-start_commander.ensures.out.0 ∙
           ap (λ ls. c.loop-slot.out.items ++ ls)
           (ap₂ (λ n v. to_all p.members n (P2a (pvalue p.ballot s v))) (sym c.self.invariant.same_node) c.in_ok-copy.ensures ∙
           ap (λ (l : Leading g.row.C.Denot). to_all l.members l.ballot.node (P2a (pvalue l.ballot s c.in-Some.command.now))) c.self.view_is));
@@ -50,11 +50,13 @@ returns-clause-commanders g c =
 
 pub returns-clause-out : goal.returns-clause-out
 returns-clause-out g c =
-    let commander : ℕ → g.row.C.Denot → Commanding g.row.C.Denot = λ s v. new_commander c.args.self.now.members (pvalue c.args.self.now.ballot s v) in
-    c.loop-slot.invariant.said ∙
-    ap (λ (es : List (ℕ × g.row.C.Denot)).
-    c.args.out.now.items ++ all_to_all c.args.self.now.members c.args.self.now.ballot.node
-    (map (λ e. P2a (pvalue c.args.self.now.ballot e.0 e.1)) es))
-    (whole deref_pair commander (entries c.args.proposals.now) c.loop-slot.yielded c.into_iter-slot-iterator.result
-    c.loop-slot.slot-iterator c.next.new.self c.next.result
-    (search rules) c.loop-slot.yielded_by c.in-None.is c.next.ensures.steps)
+    let commander : ℕ → g.row.C.Denot → Commanding g.row.C.Denot = λ s v. new_commander c.args.self.now.members (pvalue c.args.self.now.ballot s v) in (
+      c.loop-slot.invariant.said ∙
+          ap (λ (es : List (ℕ × g.row.C.Denot)).
+          c.args.out.now.items ++ all_to_all c.args.self.now.members c.args.self.now.ballot.node
+          (map (λ e. P2a (pvalue c.args.self.now.ballot e.0 e.1)) es))
+          (whole deref_pair commander (entries c.args.proposals.now) c.loop-slot.yielded c.into_iter-slot-iterator.result
+          c.loop-slot.slot-iterator c.next.new.self c.next.result
+          (search rules) c.loop-slot.yielded_by c.in-None.is c.next.ensures.steps),
+      grind (arith, common_steps),
+    )

@@ -23,11 +23,11 @@ invariant_of-self-else-is_err g c =
       commanders = p.commanders;
     }) c.insert.new.self c.start_commander-started.new.commanders c.args.slot _
     c.self.invariant
-    (at_ok c.start_commander-started.result (sym c.if-is_err.ensures.value) c.start_commander-started.ensures.commander)
+    (at_ok c.start_commander-started.result (sym c.if-is_err.ensures.value) c.start_commander-started.ensures.commander.0)
     (record { members = refl; ballot = refl; slot = refl })
 
-pub returns-then-is_err-clause-err : goal.returns-then-is_err-clause-err
-returns-then-is_err-clause-err g c =
+pub returns-then-is_err-clause-state : goal.returns-then-is_err-clause-state
+returns-then-is_err-clause-state g c =
     let p = c.self.inside in
     let with : Slots g.row.C.Denot → Slots (Commanding g.row.C.Denot) → Leading g.row.C.Denot =
     λ proposals commanders. record {
@@ -42,7 +42,7 @@ returns-then-is_err-clause-err g c =
     let free : contains_key p.proposals c.args.slot ≡ false =
     subst (λ (l : Leading g.row.C.Denot). contains_key l.proposals c.args.slot ≡ false) (sym c.self.view_is) c.requires in
     let back : c.remove.new.self ≡ p.proposals =
-    c.remove.ensures.rest ∙ ap (λ (m : Slots g.row.C.Denot). remove m c.args.slot) c.in_ok-insert.ensures.ok ∙
+    c.remove.ensures.rest ∙ ap (λ (m : Slots g.row.C.Denot). remove m c.args.slot) c.in_ok-insert.ensures.ok.0 ∙
     remove-insert p.proposals c.args.slot c.args.command free in
     let is : c.match-remove.self ≡ with c.remove.new.self c.start_commander-started.new.commanders = search rules in
-    on_err_weaker c.start_commander-started.result (λ e. (is ∙ ap₂ with back e.0 ∙ c.self.view_is, e.1)) c.start_commander-started.ensures.err
+    (search rules, on_err_weaker c.start_commander-started.result (λ e. is ∙ ap₂ with back e ∙ c.self.view_is) c.start_commander-started.ensures.commander.1)

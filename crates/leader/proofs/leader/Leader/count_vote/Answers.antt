@@ -44,12 +44,14 @@ returns-then-not-would_decide-clause-state g c =
     let x = c.in-Some.commander.now in
     let there : get p.commanders c.args.slot ≡ Some x = sym c.in-Some.ensures in
     let with : Slots (Commanding g.row.C.Denot) → Leading g.row.C.Denot =
-    λ commanders. record { members = p.members; ballot = p.ballot; active = p.active; proposals = p.proposals; scout = p.scout; commanders = commanders } in
-    ap with (heard g c) ∙
-    sym (waits (with p.commanders) c.args.from c.args.slot x there
-    (says_wait x c.args.from p.ballot (c.self.invariant.leader.commanders c.args.slot x there).ballot
-    (λ d. true≢false (sym (c.would_decide.ensures.1 d) ∙ c.if-not-would_decide.true)))) ∙
-    ap (λ (l : Leading g.row.C.Denot). (votes.on_p2b l c.args.from (Some l.ballot) c.args.slot l.ballot).state) c.self.view_is
+    λ commanders. record { members = p.members; ballot = p.ballot; active = p.active; proposals = p.proposals; scout = p.scout; commanders = commanders } in (
+      ap with (heard g c) ∙
+          sym (waits (with p.commanders) c.args.from c.args.slot x there
+          (says_wait x c.args.from p.ballot (c.self.invariant.leader.commanders c.args.slot x there).ballot
+          (λ d. true≢false (sym (c.would_decide.ensures.1 d) ∙ c.if-not-would_decide.true)))) ∙
+          ap (λ (l : Leading g.row.C.Denot). (votes.on_p2b l c.args.from (Some l.ballot) c.args.slot l.ballot).state) c.self.view_is,
+      tt,
+    )
 
 pub invariant_of-self-2 : goal.invariant_of-self-2
 invariant_of-self-2 g c =

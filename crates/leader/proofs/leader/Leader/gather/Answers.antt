@@ -29,4 +29,4 @@ returns-clause-hears g c =
     on_ok_both c.lead.result
     (λ state out.
     adopts l c.args.from c.args.report.now c.args.out.now.items c.lead.new.out.items s c.in_ok-proposals.proposals c.lead.new.self
-    (there_or_not g.C.PartialEq.eq g.met.C.Value.exact g.met.C.Eq.laws.refl) there adopting greatest state out) c.lead.ensures.state c.lead.ensures.out
+    (there_or_not g.C.PartialEq.eq g.met.C.Value.exact g.met.C.Eq.laws.refl) there adopting greatest state out) c.lead.ensures.state.0 c.lead.ensures.out.0

@@ -37,4 +37,4 @@ returns-then-ne-clause-hears g c =
     (is_same c.args.ballot c.self.inside.ballot) c.if-ne.ensures in
     on_ok_weaker c.preempted.result
     (λ e. subst (λ x. HearsP1b l c.args.from c.args.ballot c.args.report.now x c.args.out.now.items c.args.out.now.items) (sym e)
-    (of_another l c.args.from c.args.ballot c.args.report.now c.args.out.now.items found.0 there leads member other)) c.preempted.ensures.ok
+    (of_another l c.args.from c.args.ballot c.args.report.now c.args.out.now.items found.0 there leads member other)) c.preempted.ensures.ok.0

@@ -1,5 +1,5 @@
-use Rattle.std.proofs.Common.{◌≡◌, Bool, false, sym, ap, subst, ◌∙◌, None, Option}
-use Rattle.std.proofs.lemmas.Result.{on_ok_weaker}
+use Rattle.std.proofs.Common.{◌≡◌, Bool, false, refl, sym, ap, subst, ◌∙◌, None, Option}
+use Rattle.std.proofs.lemmas.Result.{on_ok_weaker, on_err_weaker}
 use Rattle.std.specs.FinMap.{get, contains_key}
 use Rattle.ballot.specs.Ballots.{Numbers, is_same}
 use Rattle.ballot.specs.Members.{is_member}
@@ -14,28 +14,34 @@ use Rattle.leader.proofs.leader.Leader.on_p2b.Goals as goal
 pub returns-in_default-clause-state : goal.returns-in_default-clause-state
 returns-in_default-clause-state g c =
     let l = c.args.self.now in
-    let none : c.args.ballot ≡ None = c.in_default.is in
-    sym (ap (λ (o : Option Numbers). (votes.on_p2b l c.args.from o c.args.slot c.args.asked).state) none ∙ ap
-    (λ (d : Done (Leading g.row.C.Denot) g.row.C.Denot). d.state) (of_none l c.args.from c.args.slot c.args.asked))
+    let none : c.args.ballot ≡ None = c.in_default.is in (
+      sym (ap (λ (o : Option Numbers). (votes.on_p2b l c.args.from o c.args.slot c.args.asked).state) none ∙ ap
+          (λ (d : Done (Leading g.row.C.Denot) g.row.C.Denot). d.state) (of_none l c.args.from c.args.slot c.args.asked)),
+      tt,
+    )
 
 pub returns-then-not-has-clause-state : goal.returns-then-not-has-clause-state
 returns-then-not-has-clause-state g c =
     let leads : IsLeader c.args.self.now = subst IsLeader c.self.view_is c.self.invariant.leader in
     let stranger : is_member c.args.self.now.members c.args.from ≡ false =
     ap (λ (l : Leading g.row.C.Denot). is_member l.members c.args.from)
-    (sym c.self.view_is) ∙ sym c.if-not-has.ensures in
-    sym (ap (λ (d : Done (Leading g.row.C.Denot) g.row.C.Denot). d.state)
-    (of_stranger c.args.self.now c.args.from c.args.slot c.args.ballot c.args.asked leads stranger))
+    (sym c.self.view_is) ∙ sym c.if-not-has.ensures in (
+      sym (ap (λ (d : Done (Leading g.row.C.Denot) g.row.C.Denot). d.state)
+          (of_stranger c.args.self.now c.args.from c.args.slot c.args.ballot c.args.asked leads stranger)),
+      tt,
+    )
 
 pub returns-then-not-has-clause-out : goal.returns-then-not-has-clause-out
 returns-then-not-has-clause-out g c =
     let leads : IsLeader c.args.self.now = subst IsLeader c.self.view_is c.self.invariant.leader in
     let stranger : is_member c.args.self.now.members c.args.from ≡ false =
     ap (λ (l : Leading g.row.C.Denot). is_member l.members c.args.from)
-    (sym c.self.view_is) ∙ sym c.if-not-has.ensures in
-    said_nothing c.args.out.now.items c.args.self.now.members c.args.self.now.ballot.node _
-    (ap (λ (d : Done (Leading g.row.C.Denot) g.row.C.Denot). d.says)
-    (of_stranger c.args.self.now c.args.from c.args.slot c.args.ballot c.args.asked leads stranger))
+    (sym c.self.view_is) ∙ sym c.if-not-has.ensures in (
+      said_nothing c.args.out.now.items c.args.self.now.members c.args.self.now.ballot.node _
+          (ap (λ (d : Done (Leading g.row.C.Denot) g.row.C.Denot). d.says)
+          (of_stranger c.args.self.now c.args.from c.args.slot c.args.ballot c.args.asked leads stranger)),
+      tt,
+    )
 
 -- a member's vote of another ballot, where a commander stands
 preempts : (g : Over) (c : goal.After-preempted g)
@@ -51,11 +57,16 @@ preempts g c =
     (now (λ l. is_same c.in-Some.ballot l.ballot) ∙ untrue (is_same c.in-Some.ballot c.self.inside.ballot) c.if-ne.ensures) found.1
 
 pub returns-then-ne-clause-state : goal.returns-then-ne-clause-state
-returns-then-ne-clause-state g c =
-    on_ok_weaker c.preempted.result (λ e. e ∙ sym (ap (λ (d : Done (Leading g.row.C.Denot) g.row.C.Denot). d.state) (preempts g c))) c.preempted.ensures.ok
+returns-then-ne-clause-state g c = (
+  on_ok_weaker c.preempted.result (λ e. e ∙ sym (ap (λ (d : Done (Leading g.row.C.Denot) g.row.C.Denot). d.state) (preempts g c)))
+      c.preempted.ensures.ok.0,
+  c.preempted.ensures.ok.1,
+)
 
 pub returns-then-ne-clause-out : goal.returns-then-ne-clause-out
-returns-then-ne-clause-out g c =
-    on_ok_always c.preempted.result
-    (said_nothing c.args.out.now.items c.args.self.now.members c.args.self.now.ballot.node _
-    (ap (λ (d : Done (Leading g.row.C.Denot) g.row.C.Denot). d.says) (preempts g c)))
+returns-then-ne-clause-out g c = (
+  on_ok_always c.preempted.result
+      (said_nothing c.args.out.now.items c.args.self.now.members c.args.self.now.ballot.node _
+      (ap (λ (d : Done (Leading g.row.C.Denot) g.row.C.Denot). d.says) (preempts g c))),
+  on_err_weaker c.preempted.result (λ _. refl) c.preempted.ensures.ok.1,
+)

@@ -12,7 +12,7 @@ use Rattle.leader.proofs.leader.copying.copy_commanders.Goals as goal
 
 pub loop-slot-preserved : goal.loop-slot-preserved
 loop-slot-preserved g c =
-    c.in_ok-insert.ensures.ok ∙
+    c.in_ok-insert.ensures.ok.0 ∙
     ap₂ (λ (m : Slots (Commanding g.row.C.Denot)) v. insert m c.in-Some.slot.now v) c.loop-slot.invariant c.in_ok-copy.ensures ∙
     turn deref_pair (λ s v. v) (entries c.args.commanders.now) c.loop-slot.yielded c.into_iter-slot-iterator.result
     c.loop-slot.slot-iterator c.next.new.self c.next.result

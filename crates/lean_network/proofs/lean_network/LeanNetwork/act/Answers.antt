@@ -1,4 +1,4 @@
-use Rattle.std.proofs.Common.{◌++◌, ap, ◌∙◌, arith}
+use Rattle.std.proofs.Common.{rules, ◌++◌, ap, ◌∙◌, arith}
 use Rattle.std.proofs.lemmas.Bool.{false≢true}
 use Rattle.node.specs.Holding.{HeldTurn}
 use Rattle.network.proofs.Sent.{member_bounds}
@@ -23,34 +23,41 @@ act-requires g c =
 pub invariant_of-self : goal.invariant_of-self
 invariant_of-self g c =
     lean_stays_quiet (at_lean_place c.self.invariant c.self.view_is c.from.ensures c.requires.member) c.index_mut.result.now
-    c.index_mut.ensures.value c.act.new.self c.act.new.sent.items c.in_err-outcome.ensures.err
-    c.in_err-outcome.ensures.unsaid.0
+    c.index_mut.ensures.value c.act.new.self c.act.new.sent.items c.in_err-outcome.ensures.state.1
+    c.in_err-outcome.ensures.sent.1
 
-pub returns-in_err-outcome-clause-err : goal.returns-in_err-outcome-clause-err
-returns-in_err-outcome-clause-err g c = on_err c.from_residual.result
-    (lean_turned_not (at_lean_place c.self.invariant c.self.view_is c.from.ensures c.requires.member) c.index_mut.result.now
-    c.index_mut.ensures.value c.act.new.self c.act.new.sent.items c.in_err-outcome.ensures.err
-    c.in_err-outcome.ensures.unsaid.0)
+pub returns-in_err-outcome-clause-ok : goal.returns-in_err-outcome-clause-ok
+returns-in_err-outcome-clause-ok g c = (
+  search rules,
+  on_err c.from_residual.result
+      (lean_turned_not (at_lean_place c.self.invariant c.self.view_is c.from.ensures c.requires.member) c.index_mut.result.now
+      c.index_mut.ensures.value c.act.new.self c.act.new.sent.items c.in_err-outcome.ensures.state.1
+      c.in_err-outcome.ensures.sent.1),
+)
 
 pub invariant_of-self-2 : goal.invariant_of-self-2
 invariant_of-self-2 g c =
     lean_acted_whole g.O.Object.rules (at_lean_place c.self.invariant c.self.view_is c.from.ensures c.requires.member)
     c.index_mut.result.now c.index_mut.ensures.value c.args.deed c.act.new.self c.act.new.sent.items
-    c.in_ok-outcome.ensures.state c.in_ok-outcome.ensures.sent
+    c.in_ok-outcome.ensures.state.0 c.in_ok-outcome.ensures.sent.0
 
 pub returns-clause-ok : goal.returns-clause-ok
-returns-clause-ok g c =
-    c.sort_mail.ensures
-    ∙ lean_acted_ok g.O.Object.rules (at_lean_place c.self.invariant c.self.view_is c.from.ensures c.requires.member)
-    c.index_mut.result.now c.index_mut.ensures.value c.args.deed c.act.new.self c.act.new.sent.items
-    c.in_ok-outcome.ensures.state c.in_ok-outcome.ensures.sent
+returns-clause-ok g c = (
+  c.sort_mail.ensures
+      ∙ lean_acted_ok g.O.Object.rules (at_lean_place c.self.invariant c.self.view_is c.from.ensures c.requires.member)
+      c.index_mut.result.now c.index_mut.ensures.value c.args.deed c.act.new.self c.act.new.sent.items
+      c.in_ok-outcome.ensures.state.0 c.in_ok-outcome.ensures.sent.0,
+  tt,
+)
 
 pub returns-clause-answers : goal.returns-clause-answers
-returns-clause-answers g c =
-    c.in_ok-outcome.ensures.answers
-    ∙ ap (λ (t : HeldTurn g.row.O-Op.Denot g.row.O.Denot g.row.O-Reply.Denot). c.args.answers.now.items ++ t.answers)
-    (lean_turn_is g.O.Object.rules (at_lean_place c.self.invariant c.self.view_is c.from.ensures c.requires.member)
-    c.index_mut.result.now c.index_mut.ensures.value c.args.deed)
+returns-clause-answers g c = (
+  c.in_ok-outcome.ensures.answers.0
+      ∙ ap (λ (t : HeldTurn g.row.O-Op.Denot g.row.O.Denot g.row.O-Reply.Denot). c.args.answers.now.items ++ t.answers)
+      (lean_turn_is g.O.Object.rules (at_lean_place c.self.invariant c.self.view_is c.from.ensures c.requires.member)
+      c.index_mut.result.now c.index_mut.ensures.value c.args.deed),
+  tt,
+)
 
 pub returns-clause-outcome : goal.returns-clause-outcome
 returns-clause-outcome g c =

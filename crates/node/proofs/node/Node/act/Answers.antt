@@ -10,7 +10,7 @@ use Rattle.node.proofs.node.Node.act.Goals as goal
 pub invariant_of-self : goal.invariant_of-self
 invariant_of-self g c =
     let h = c.self.inside.lean in
-    either_way c.act.result c.act.ensures.state c.act.ensures.err
+    either_way c.act.result c.act.ensures.state.0 c.act.ensures.state.1
     (λ e. subst (λ (y : Holding _ _). ObeysBook g.O.Object.rules y.object y.state.replica) (sym e)
     (turned_obeys
     (record { none = c.filter_remembers.ensures.none; done = c.filter_remembers.ensures.done; stale = c.filter_remembers.ensures.stale })
@@ -19,14 +19,16 @@ invariant_of-self g c =
 
 pub returns-clause-answers : goal.returns-clause-answers
 returns-clause-answers g c =
-    let h = c.self.inside.lean in
-    on_ok_weaker c.act.result (λ e.
-    e ∙ ap (λ l. c.args.answers.now.items ++ l)
-    (turned_answers
-    (record { none = c.filter_remembers.ensures.none; done = c.filter_remembers.ensures.done; stale = c.filter_remembers.ensures.stale })
-    g.O.Object.rules h c.self.invariant (members_of h.state) (number_of h.state) c.args.deed
-    ∙ ap (λ x. (own_turn g.O.Object.rules x c.args.deed).answers) c.self.view_is))
-    c.act.ensures.answers
+    let h = c.self.inside.lean in (
+      on_ok_weaker c.act.result (λ e.
+          e ∙ ap (λ l. c.args.answers.now.items ++ l)
+          (turned_answers
+          (record { none = c.filter_remembers.ensures.none; done = c.filter_remembers.ensures.done; stale = c.filter_remembers.ensures.stale })
+          g.O.Object.rules h c.self.invariant (members_of h.state) (number_of h.state) c.args.deed
+          ∙ ap (λ x. (own_turn g.O.Object.rules x c.args.deed).answers) c.self.view_is))
+          c.act.ensures.answers.0,
+      c.act.ensures.answers.1,
+    )
 
 pub returns-clause-outcome : goal.returns-clause-outcome
 returns-clause-outcome g c =

@@ -13,6 +13,8 @@ returns-in_err-insert-clause-known c =
     let some : IsSome {T = ℕ} None = subst IsSome absent known in absurd (true≢false (sym some))
 
 pub returns-clause-ok : goal.returns-clause-ok
-returns-clause-ok c =
-    put_at c.self.inside.numbers.entries _ c.args.session c.args.number c.in_ok-insert.ensures.updates.0 ∙ ap
-    (λ (m : LatestNumbers). insert m c.args.session c.args.number) c.self.view_is
+returns-clause-ok c = (
+  put_at c.self.inside.numbers.entries _ c.args.session c.args.number c.in_ok-insert.ensures.updates.0 ∙ ap
+      (λ (m : LatestNumbers). insert m c.args.session c.args.number) c.self.view_is,
+  tt,
+)

@@ -4,10 +4,10 @@ use Rattle.object.specs.OnceOnly.{LatestNumbers}
 use Rattle.object.proofs.LatestMaps.{remove-insert}
 use Rattle.object.proofs.once.Once.apply.Goals as goal
 
-pub returns-in-Err-clause-err : goal.returns-in-Err-clause-err
-returns-in-Err-clause-err g c =
+pub returns-in-Err-clause-state : goal.returns-in-Err-clause-state
+returns-in-Err-clause-state g c =
     let key = c.key-key.result in
     let latest : c.forget.new.self ≡ c.self.inside.latest =
-    c.forget.ensures ∙ ap (λ (m : LatestNumbers). remove m key.session) c.in_ok-set-in-None.ensures.ok ∙ remove-insert
+    c.forget.ensures ∙ ap (λ (m : LatestNumbers). remove m key.session) c.in_ok-set-in-None.ensures.ok.0 ∙ remove-insert
     c.self.inside.latest key.session key.number (sym c.get.ensures ∙ c.in-None.is) in
-    (ap₂ (λ o (l : LatestNumbers). record { object = o; latest = l }) c.in-Err.ensures.err.0 latest ∙ c.self.view_is, c.in-Err.ensures.err.1)
+    (tt, ap₂ (λ o (l : LatestNumbers). record { object = o; latest = l }) c.in-Err.ensures.err.0 latest ∙ c.self.view_is)

@@ -17,8 +17,8 @@ invariant_of-self-2 g c =
     let new = ap (λ k. is_submitted k S) (ap (λ q. q.key) c.in_ok-command.ensures ∙ sym c.key.ensures.key) ∙ sym c.has.ensures ∙ c.if-has.false in
     let told = c.self.invariant.recorded in
     let now : record_of c.push.new.self c.make_room.new.items.items c.make_room-2.new.items.items ≡ record_of (S ++ s ∷ []) A O =
-    λ i. record_of (c.in_ok-push.ensures.ok i) (c.in_ok-make_room.ensures.items i) (c.in_ok-make_room-2.ensures.items i) in
-    let longer : length c.push.new.self ≡ length S + 1 = ap length c.in_ok-push.ensures.ok ∙ length-append S (s ∷ []) in
+    λ i. record_of (c.in_ok-push.ensures.ok.0 i) (c.in_ok-make_room.ensures.items i) (c.in_ok-make_room-2.ensures.items i) in
+    let longer : length c.push.new.self ≡ length S + 1 = ap length c.in_ok-push.ensures.ok.0 ∙ length-append S (s ∷ []) in
     let fates : length c.self.inside.fates.items ≡ length S =
     ap length c.self.invariant.fated ∙ length-map S (λ t. fate_at (record_of S A O) (submitted_key t)) in
     let count = c.self.inside.fates.ok.0 in
@@ -45,7 +45,7 @@ returns-clause-open g c =
     let s : Submission g.row.Op.Denot = record { command = c.in_ok-command.command; after = c.len-after.result } in
     let new = ap (λ k. is_submitted k S) (ap (λ q. q.key) c.in_ok-command.ensures ∙ sym c.key.ensures.key) ∙ sym c.has.ensures ∙ c.if-has.false in
     let now : record_of c.push.new.self c.make_room.new.items.items c.make_room-2.new.items.items ≡ record_of (S ++ s ∷ []) A O =
-    λ i. record_of (c.in_ok-push.ensures.ok i) (c.in_ok-make_room.ensures.items i) (c.in_ok-make_room-2.ensures.items i) in
+    λ i. record_of (c.in_ok-push.ensures.ok.0 i) (c.in_ok-make_room.ensures.items i) (c.in_ok-make_room-2.ensures.items i) in
     λ _. subst EndsOpen (sym now) (submitted_open S A O s c.self.invariant.recorded new)
 
 pub returns-clause-back : goal.returns-clause-back
@@ -55,5 +55,5 @@ returns-clause-back g c =
     let O = c.self.inside.order.items in
     let s : Submission g.row.Op.Denot = record { command = c.in_ok-command.command; after = c.len-after.result } in
     let now : record_of c.push.new.self c.make_room.new.items.items c.make_room-2.new.items.items ≡ record_of (S ++ s ∷ []) A O =
-    λ i. record_of (c.in_ok-push.ensures.ok i) (c.in_ok-make_room.ensures.items i) (c.in_ok-make_room-2.ensures.items i) in
+    λ i. record_of (c.in_ok-push.ensures.ok.0 i) (c.in_ok-make_room.ensures.items i) (c.in_ok-make_room-2.ensures.items i) in
     λ _. ap without_last_submission now ∙ ap (λ xs. record_of xs A O) (all_but_last S s) ∙ c.self.view_is

@@ -22,7 +22,7 @@ loop-pvalue-preserved g c =
       | then-not-contains+in_ok-copy+in_ok-push w ↦
           let unseen = λ (j : Rattle.object.specs.Lists.In p now). true≢false (sym (c.contains.ensures.1 j) ∙ w.if-not-contains.true) in
           let t = turn_more old now c.args.report.now i p kept fresh c.loop-pvalue-test.true c.pvalue-item.is
-          w.push.new.self w.in_ok-copy.field-0 unseen w.in_ok-copy.ensures w.in_ok-push.ensures.ok in
+          w.push.new.self w.in_ok-copy.field-0 unseen w.in_ok-copy.ensures w.in_ok-push.ensures.ok.0 in
           subst P (sym w.self-is) (record { kept = t.0; fresh = t.1 })
       | else-not-contains w ↦
           let seen = c.contains.ensures.0 w.if-not-contains.false in

@@ -26,9 +26,14 @@ returns-in_ok-set_wait-clause-role c =
     sym (ap (λ es. (session_of c.args.session es).role) c.in_ok-set_wait.ensures.now ∙ ap
     (λ o. (unwrap_or o new_session).role) (value_at-altered c.args.session (with_wait None) _ ∙ ap (option_map (with_wait None)) there))
 
-pub returns-else-is_some-clause-now : goal.returns-else-is_some-clause-now
-returns-else-is_some-clause-now c =
+pub returns-else-is_some-clause-drafts : goal.returns-else-is_some-clause-drafts
+returns-else-is_some-clause-drafts c =
     let none : c.in-Some.found.now.wait ≡ None = search rules in
     let same : c.self.inside.sessions.entries ≡ c.args.self.now.now = ap (λ (d : Draft (List (ℕ × SessionState))). d.now) c.self.view_is in
-    subst (λ es. es ≡ known c.args.session es) same
-    (known-already c.args.session 0 _ c.in-Some.found.now c.self.inside.sessions.entries c.self.invariant.now.rising (sym c.in-Some.ensures.value) none)
+    record {
+      now = subst (λ es. es ≡ known c.args.session es) same
+          (known-already c.args.session 0 _ c.in-Some.found.now c.self.inside.sessions.entries c.self.invariant.now.rising
+          (sym c.in-Some.ensures.value) none);
+      err = tt;
+      before = search rules;
+    }

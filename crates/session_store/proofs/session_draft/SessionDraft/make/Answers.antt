@@ -37,11 +37,14 @@ invariant_of-self-2 c =
     (all-grown c.self.inside.lines c.enrol.new.self c.self.inside.sessions.entries c.enrol.ensures.grown c.self.invariant.now))
     c.self.invariant
 
-pub returns-clause-before : goal.returns-clause-before
-returns-clause-before c =
-    before-step c.self.inside.steps.items c.reserve.new.self.items _ _ _ _ _
-    (ap (λ (d : Draft (List (ℕ × SessionState))). d.before) c.self.view_is) c.in_ok-reserve.ensures.items
-    c.in_ok-push.ensures.items
-    (made-back c.args.session _ _ _
-    (ap (λ (d : Draft (List (ℕ × SessionState))). value_at c.args.session d.now) c.self.view_is ∙ c.requires)
-    c.in_ok-insert.ensures.entries)
+pub returns : goal.returns
+returns c = record {
+  now = search rules;
+  err = tt;
+  before = before-step c.self.inside.steps.items c.reserve.new.self.items _ _ _ _ _
+      (ap (λ (d : Draft (List (ℕ × SessionState))). d.before) c.self.view_is) c.in_ok-reserve.ensures.items
+      c.in_ok-push.ensures.items
+      (made-back c.args.session _ _ _
+      (ap (λ (d : Draft (List (ℕ × SessionState))). value_at c.args.session d.now) c.self.view_is ∙ c.requires)
+      c.in_ok-insert.ensures.entries);
+}

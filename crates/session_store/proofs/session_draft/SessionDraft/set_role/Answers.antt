@@ -10,20 +10,28 @@ use Rattle.session_store.proofs.Standing.{all-kept}
 use Rattle.session_store.proofs.SessionDrafts.{unplayed, before-step, played-back, stepped}
 use Rattle.session_store.proofs.session_draft.SessionDraft.set_role.Goals as goal
 
-pub returns-in_default-clause-now : goal.returns-in_default-clause-now
-returns-in_default-clause-now c =
+pub returns-in_default : goal.returns-in_default
+returns-in_default c =
     let none : value_at c.args.session c.args.self.now.now ≡ None =
     ap (λ (d : Draft (List (ℕ × SessionState))). value_at c.args.session d.now)
     (sym c.self.view_is) ∙ sym c.get.ensures.value ∙ ap option_copied c.in_default.is in
-    sym (altered-absent c.args.session (with_role c.args.role) c.args.self.now.now none)
+    record {
+      now = sym (altered-absent c.args.session (with_role c.args.role) c.args.self.now.now none);
+      err = tt;
+      before = search rules;
+    }
 
-pub returns-then-eq-clause-now : goal.returns-then-eq-clause-now
-returns-then-eq-clause-now c =
+pub returns-then-eq : goal.returns-then-eq
+returns-then-eq c =
     let same : c.in-Some.found.now.role ≡ c.args.role = search rules in
     let now : c.self.inside.sessions.entries ≡ c.args.self.now.now = ap (λ (d : Draft (List (ℕ × SessionState))). d.now) c.self.view_is in
-    subst (λ es. es ≡ altered c.args.session (with_role c.args.role) es) now
-    (sym (unplayed c.args.session 0 _ c.args.role c.in-Some.found.now c.self.inside.sessions.entries c.self.invariant.now.rising
-    (sym c.in-Some.ensures.value) same))
+    record {
+      now = subst (λ es. es ≡ altered c.args.session (with_role c.args.role) es) now
+          (sym (unplayed c.args.session 0 _ c.args.role c.in-Some.found.now c.self.inside.sessions.entries c.self.invariant.now.rising
+          (sym c.in-Some.ensures.value) same));
+      err = tt;
+      before = search rules;
+    }
 
 pub invariant_of-self-2 : goal.invariant_of-self-2
 invariant_of-self-2 c =
@@ -34,8 +42,12 @@ invariant_of-self-2 c =
     (all-kept (StandsIn c.self.inside.lines) c.args.session (with_role c.args.role) _ _ c.set_role.ensures (λ s h. h) c.self.invariant.now)
     c.self.invariant
 
-pub returns-clause-before : goal.returns-clause-before
-returns-clause-before c =
-    before-step c.self.inside.steps.items c.self.inside.steps.items c.push.new.self.items _ _ _ _
-    (ap (λ (d : Draft (List (ℕ × SessionState))). d.before) c.self.view_is) refl c.in_ok-push.ensures.items
-    (played-back c.args.session 0 _ c.args.role c.in-Some.found.now _ _ c.self.invariant.now.rising (sym c.in-Some.ensures.value) c.set_role.ensures)
+pub returns : goal.returns
+returns c = record {
+  now = search rules;
+  err = tt;
+  before = before-step c.self.inside.steps.items c.self.inside.steps.items c.push.new.self.items _ _ _ _
+      (ap (λ (d : Draft (List (ℕ × SessionState))). d.before) c.self.view_is) refl c.in_ok-push.ensures.items
+      (played-back c.args.session 0 _ c.args.role c.in-Some.found.now _ _ c.self.invariant.now.rising
+      (sym c.in-Some.ensures.value) c.set_role.ensures);
+}

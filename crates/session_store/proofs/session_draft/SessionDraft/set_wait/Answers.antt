@@ -10,21 +10,30 @@ use Rattle.session_store.proofs.Standing.{all-altered, all-grown, stands-again}
 use Rattle.session_store.proofs.SessionDrafts.{unwaited, before-step, waited-back, waited-still, stepped}
 use Rattle.session_store.proofs.session_draft.SessionDraft.set_wait.Goals as goal
 
-pub returns-in_default-clause-now : goal.returns-in_default-clause-now
-returns-in_default-clause-now c =
+pub returns-in_default : goal.returns-in_default
+returns-in_default c =
     let none : value_at c.args.session c.args.self.now.now ≡ None =
     ap (λ (d : Draft (List (ℕ × SessionState))). value_at c.args.session d.now)
     (sym c.self.view_is) ∙ sym c.get.ensures.value ∙ ap option_copied c.in_default.is in
-    sym (altered-absent c.args.session (with_wait c.args.wait) c.args.self.now.now none)
+    record {
+      now = sym (altered-absent c.args.session (with_wait c.args.wait) c.args.self.now.now none);
+      err = tt;
+      before = search rules;
+    }
 
-pub returns-then-is_none-2-clause-now : goal.returns-then-is_none-2-clause-now
-returns-then-is_none-2-clause-now c =
+pub returns-then-is_none-2 : goal.returns-then-is_none-2
+returns-then-is_none-2 c =
     let before : c.in-Some.found.now.wait ≡ None = search rules in
     let after : c.args.wait ≡ None = search rules in
     let same : c.self.inside.sessions.entries ≡ c.args.self.now.now = ap (λ (d : Draft (List (ℕ × SessionState))). d.now) c.self.view_is in
-    subst (λ es. es ≡ altered c.args.session (with_wait c.args.wait) es) same
-    (subst (λ w. c.self.inside.sessions.entries ≡ altered c.args.session (with_wait w) c.self.inside.sessions.entries) (sym after)
-    (sym (unwaited c.args.session 0 _ c.in-Some.found.now c.self.inside.sessions.entries c.self.invariant.now.rising (sym c.in-Some.ensures.value) before)))
+    record {
+      now = subst (λ es. es ≡ altered c.args.session (with_wait c.args.wait) es) same
+          (subst (λ w. c.self.inside.sessions.entries ≡ altered c.args.session (with_wait w) c.self.inside.sessions.entries) (sym after)
+          (sym (unwaited c.args.session 0 _ c.in-Some.found.now c.self.inside.sessions.entries c.self.invariant.now.rising
+          (sym c.in-Some.ensures.value) before)));
+      err = tt;
+      before = search rules;
+    }
 
 pub invariant_of-self-in_err-join : goal.invariant_of-self-in_err-join
 invariant_of-self-in_err-join c =
@@ -34,11 +43,14 @@ invariant_of-self-in_err-join c =
     (all-grown c.self.inside.lines c.join.new.self _ c.join.ensures.grown c.self.invariant.now)
     c.self.invariant
 
-pub returns-in_err-join-clause-before : goal.returns-in_err-join-clause-before
-returns-in_err-join-clause-before c =
-    before-step c.self.inside.steps.items c.self.inside.steps.items c.push.new.self.items _ _ _ _
-    (ap (λ (d : Draft (List (ℕ × SessionState))). d.before) c.self.view_is) refl c.in_ok-push.ensures.items
-    (waited-still c.args.session 0 _ c.args.wait c.in-Some.found.now _ c.self.invariant.now.rising (sym c.in-Some.ensures.value))
+pub returns-in_err-join : goal.returns-in_err-join
+returns-in_err-join c = record {
+  now = search rules;
+  err = search rules;
+  before = before-step c.self.inside.steps.items c.self.inside.steps.items c.push.new.self.items _ _ _ _
+      (ap (λ (d : Draft (List (ℕ × SessionState))). d.before) c.self.view_is) refl c.in_ok-push.ensures.items
+      (waited-still c.args.session 0 _ c.args.wait c.in-Some.found.now _ c.self.invariant.now.rising (sym c.in-Some.ensures.value));
+}
 
 pub invariant_of-self-2 : goal.invariant_of-self-2
 invariant_of-self-2 c =
@@ -52,8 +64,12 @@ invariant_of-self-2 c =
     (all-grown c.self.inside.lines c.join.new.self _ c.join.ensures.grown c.self.invariant.now))
     c.self.invariant
 
-pub returns-clause-before : goal.returns-clause-before
-returns-clause-before c =
-    before-step c.self.inside.steps.items c.self.inside.steps.items c.push.new.self.items _ _ _ _
-    (ap (λ (d : Draft (List (ℕ × SessionState))). d.before) c.self.view_is) refl c.in_ok-push.ensures.items
-    (waited-back c.args.session 0 _ c.args.wait c.in-Some.found.now _ _ c.self.invariant.now.rising (sym c.in-Some.ensures.value) c.set_wait.ensures)
+pub returns : goal.returns
+returns c = record {
+  now = search rules;
+  err = tt;
+  before = before-step c.self.inside.steps.items c.self.inside.steps.items c.push.new.self.items _ _ _ _
+      (ap (λ (d : Draft (List (ℕ × SessionState))). d.before) c.self.view_is) refl c.in_ok-push.ensures.items
+      (waited-back c.args.session 0 _ c.args.wait c.in-Some.found.now _ _ c.self.invariant.now.rising
+      (sym c.in-Some.ensures.value) c.set_wait.ensures);
+}

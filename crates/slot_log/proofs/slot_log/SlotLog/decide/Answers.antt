@@ -17,7 +17,7 @@ invariant_of-self-then-known g c =
     let numbered : c.args.slot ≤ 2 ^ 62 = omega arith in
     let free = sym (decision_at a c.args.self.now c.self.view_is c.args.slot) ∙ c.requires in
     let known = ap (λ b. is_known g.C.PartialEq.eq b c.args.command) c.self.view_is ∙ sym c.is_known-known.ensures ∙ c.if-known.true in
-    subst (λ (ds : Slots g.row.C.Denot). KeepsBook g.C.PartialEq.eq g.C.Keyed.key_of (record a { decisions = ds })) (sym c.in_ok-insert.ensures.ok)
+    subst (λ (ds : Slots g.row.C.Denot). KeepsBook g.C.PartialEq.eq g.C.Keyed.key_of (record a { decisions = ds })) (sym c.in_ok-insert.ensures.ok.0)
     (known_kept g.C.PartialEq.eq g.C.Keyed.key_of g.met.C.Value.exact g.met.C.Eq.laws.refl a c.self.invariant c.args.slot c.args.command numbered free known)
 
 -- the decision that was put
@@ -32,7 +32,7 @@ pub unwrap-command-requires : goal.unwrap-command-requires
 unwrap-command-requires g c =
     there c.get.result c.args.command
     (put_there c.self.inside.decisions c.insert.new.self c.args.slot c.args.command c.get.result
-    c.in_ok-insert.ensures.ok c.get.ensures)
+    c.in_ok-insert.ensures.ok.0 c.get.ensures)
 
 pub invariant_of-self-in-Ok : goal.invariant_of-self-in-Ok
 invariant_of-self-in-Ok g c =
@@ -41,11 +41,11 @@ invariant_of-self-in-Ok g c =
     let numbered : c.args.slot ≤ 2 ^ 62 = omega arith in
     let free = sym (decision_at a c.args.self.now c.self.view_is c.args.slot) ∙ c.requires in
     let is : c.args.command ≡ x = same_Some c.args.command x
-    (sym (put_there a.decisions c.insert.new.self c.args.slot c.args.command c.get.result c.in_ok-insert.ensures.ok
+    (sym (put_there a.decisions c.insert.new.self c.args.slot c.args.command c.get.result c.in_ok-insert.ensures.ok.0
     c.get.ensures) ∙ ap option_copied c.unwrap-command.ensures) in
     subst (λ (ds : Slots g.row.C.Denot). KeepsBook g.C.PartialEq.eq g.C.Keyed.key_of
     (record a { decisions = ds; places = c.note.new.self }))
-    (sym (c.in_ok-insert.ensures.ok ∙ ap (insert a.decisions c.args.slot) is))
+    (sym (c.in_ok-insert.ensures.ok.0 ∙ ap (insert a.decisions c.args.slot) is))
     (noted_kept g.C.PartialEq.eq g.C.Keyed.key_of g.met.C.Value.exact g.met.C.Eq.laws.refl a c.self.invariant
     c.args.slot x numbered free c.note.new.self c.in-Ok.ensures.places c.in-Ok.ensures.others)
 
@@ -58,15 +58,20 @@ invariant_of-self-in-Err g c =
     let a = c.self.inside in
     let free = sym (decision_at a c.args.self.now c.self.view_is c.args.slot) ∙ c.requires in
     subst (λ (ds : Slots g.row.C.Denot). KeepsBook g.C.PartialEq.eq g.C.Keyed.key_of (record a { decisions = ds; places = c.note.new.self }))
-    (restored a.decisions c.insert.new.self c.remove.new.self c.args.slot c.args.command free c.in_ok-insert.ensures.ok c.remove.ensures.rest)
+    (restored a.decisions c.insert.new.self c.remove.new.self c.args.slot c.args.command free c.in_ok-insert.ensures.ok.0 c.remove.ensures.rest)
     (places_kept g.C.PartialEq.eq g.C.Keyed.key_of g.met.C.Value.exact g.met.C.Eq.laws.refl a c.self.invariant
     c.note.new.self c.in-Err.ensures.err.0 c.in-Err.ensures.err.1)
 
-pub returns-in-Err-clause-err : goal.returns-in-Err-clause-err
-returns-in-Err-clause-err g c =
+pub returns-in-Err : goal.returns-in-Err
+returns-in-Err g c =
     let a = c.self.inside in
     let free = sym (decision_at a c.args.self.now c.self.view_is c.args.slot) ∙ c.requires in
-    sym (ap (λ (ds : Slots g.row.C.Denot). record (book_of a) { decisions = ds })
-    (restored a.decisions c.insert.new.self c.remove.new.self c.args.slot c.args.command free
-    c.in_ok-insert.ensures.ok c.remove.ensures.rest))
-    ∙ c.self.view_is
+    record {
+      ok = (
+        tt,
+        sym (ap (λ (ds : Slots g.row.C.Denot). record (book_of a) { decisions = ds })
+            (restored a.decisions c.insert.new.self c.remove.new.self c.args.slot c.args.command free
+            c.in_ok-insert.ensures.ok.0 c.remove.ensures.rest))
+            ∙ c.self.view_is,
+      );
+    }

@@ -12,8 +12,11 @@ use Rattle.slot_log.proofs.slot_log.SlotLog.learn.Goals as goal
 pub returns-in-Some-clause-state : goal.returns-in-Some-clause-state
 returns-in-Some-clause-state g c =
     let same = g.met.C.Value.exact c.in-Some.decided.now c.args.command (sym c.eq.ensures ∙ c.if-eq.true) in
-    let there = decision_at c.self.inside c.args.self.now c.self.view_is c.args.slot ∙ sym c.in-Some.ensures ∙ ap (λ x. Some x) same in
-    ap (λ (ds : Slots _). record c.args.self.now { decisions = ds }) (sym (insert_again c.args.self.now.decisions c.args.slot c.args.command there))
+    let there = decision_at c.self.inside c.args.self.now c.self.view_is c.args.slot ∙ sym c.in-Some.ensures ∙ ap (λ x. Some x) same in (
+      ap (λ (ds : Slots _). record c.args.self.now { decisions = ds })
+          (sym (insert_again c.args.self.now.decisions c.args.slot c.args.command there)),
+      tt,
+    )
 
 pub returns-in-Some-clause-clash : goal.returns-in-Some-clause-clash
 returns-in-Some-clause-clash g c =

@@ -24,7 +24,7 @@ invariant_of-self-2 g c =
     let popped = c.pop_front.ensures.len in
     let one = ap (λ (o : Option _). length (option_to_list o)) c.unwrap-command.ensures in
     let grown : len (insert a.proposals slot x) ≡ len a.proposals + 1 = len_inserted a.proposals slot x (kept.ahead slot least.next) in
-    let puts : c.insert.new.self ≡ insert a.proposals slot x = c.in_ok-insert.ensures.ok ∙ ap (insert a.proposals slot) copy in
+    let puts : c.insert.new.self ≡ insert a.proposals slot x = c.in_ok-insert.ensures.ok.0 ∙ ap (insert a.proposals slot) copy in
     let room = kept.room in
     let rest = c.pop_front.ensures.capacity in
     subst (λ (ps : Slots g.row.C.Denot). KeepsBook g.C.PartialEq.eq g.C.Keyed.key_of

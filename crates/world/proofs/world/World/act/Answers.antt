@@ -68,7 +68,7 @@ act-requires g c = watched_able g.O.Object.rules c.behind-self.inside.node c.beh
 pub invariant_of-behind-self : goal.invariant_of-behind-self
 invariant_of-behind-self g c =
     watched_shown g.O.Object.rules c.behind-self.inside.node c.act.new.self _ c.behind-self.inside.accepted.items
-    c.behind-self.view_is c.args.deed c.act.result c.act.ensures.state c.act.ensures.err c.behind-self.invariant
+    c.behind-self.view_is c.args.deed c.act.result c.act.ensures.state.0 c.act.ensures.state.1 c.behind-self.invariant
 
 pub returns-in_err-came-clause-err : goal.returns-in_err-came-clause-err
 returns-in_err-came-clause-err g c = on_err c.from_residual-in_err-came.result
@@ -86,8 +86,8 @@ returns-in_err-came-clause-err g c = on_err c.from_residual-in_err-came.result
       taken = c.self.inside.taken;
     }) c.from-place.result c.index_mut.result.now
     _ c.index_mut.ensures.value (watched_still g.O.Object.rules c.behind-self.inside.node c.act.new.self _
-    c.behind-self.inside.accepted.items c.behind-self.view_is c.args.deed c.in_err-came.ensures.err) _
-    c.in_err-came.ensures.unsaid.0 _ c.in_err-came.ensures.unsaid.1 _ c.make_room_if.ensures.kept ∙ c.self.view_is)
+    c.behind-self.inside.accepted.items c.behind-self.view_is c.args.deed c.in_err-came.ensures.state.1) _
+    c.in_err-came.ensures.sent.1 _ c.in_err-came.ensures.answers.1 _ c.make_room_if.ensures.kept ∙ c.self.view_is)
 
 pub invariant_of-self-2 : goal.invariant_of-self-2
 invariant_of-self-2 g c =
@@ -95,11 +95,11 @@ invariant_of-self-2 g c =
     c.args.deed c.requires.member c.requires.own c.requires.room c.from-place.ensures
     c.index_mut.result.now c.index_mut.ensures.value
     _ (watched_state g.O.Object.rules c.behind-self.inside.node c.act.new.self _ c.behind-self.inside.accepted.items
-    c.behind-self.view_is c.args.deed c.in_ok-came.ensures.state)
+    c.behind-self.view_is c.args.deed c.in_ok-came.ensures.state.0)
     _ (watched_sent g.O.Object.rules c.behind-self.inside.node c.act.new.self _ c.behind-self.inside.accepted.items
-    c.behind-self.view_is c.args.deed _ _ c.in_ok-came.ensures.sent)
+    c.behind-self.view_is c.args.deed _ _ c.in_ok-came.ensures.sent.0)
     _ (watched_answers g.O.Object.rules c.behind-self.inside.node c.act.new.self _ c.behind-self.inside.accepted.items
-    c.behind-self.view_is c.args.deed _ _ c.in_ok-came.ensures.answers)
+    c.behind-self.view_is c.args.deed _ _ c.in_ok-came.ensures.answers.0)
     _ (asked_more _ c.as_slice.result.now c.make_room_if.new.items.items _ c.self.inside.answers.items c.len.result
     c.args.deed c.in_ok-added.added c.as_slice.ensures.value
     (c.len.ensures ∙ c.self.inside.answers.ok.0) c.in_ok-added.ensures.added c.make_room_if.ensures.kept
@@ -115,11 +115,11 @@ returns-clause-ok g c =
     c.from-place.result c.args.deed c.requires.member c.requires.own c.requires.room c.from-place.ensures
     c.index_mut.result.now c.index_mut.ensures.value
     _ (watched_state g.O.Object.rules c.behind-self.inside.node c.act.new.self _ c.behind-self.inside.accepted.items
-    c.behind-self.view_is c.args.deed c.in_ok-came.ensures.state)
+    c.behind-self.view_is c.args.deed c.in_ok-came.ensures.state.0)
     _ (watched_sent g.O.Object.rules c.behind-self.inside.node c.act.new.self _ c.behind-self.inside.accepted.items
-    c.behind-self.view_is c.args.deed _ _ c.in_ok-came.ensures.sent)
+    c.behind-self.view_is c.args.deed _ _ c.in_ok-came.ensures.sent.0)
     _ (watched_answers g.O.Object.rules c.behind-self.inside.node c.act.new.self _ c.behind-self.inside.accepted.items
-    c.behind-self.view_is c.args.deed _ _ c.in_ok-came.ensures.answers)
+    c.behind-self.view_is c.args.deed _ _ c.in_ok-came.ensures.answers.0)
     _ (asked_more _ c.as_slice.result.now c.make_room_if.new.items.items _ c.self.inside.answers.items c.len.result
     c.args.deed c.in_ok-added.added c.as_slice.ensures.value
     (c.len.ensures ∙ c.self.inside.answers.ok.0) c.in_ok-added.ensures.added c.make_room_if.ensures.kept
