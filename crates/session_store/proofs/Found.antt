@@ -4,9 +4,8 @@ use Rattle.std.proofs.Common.{None, IfSome, IfNone, filter, filter_map, refl, sy
 use Rattle.std.specs.List.{cons_option, list_any}
 use Rattle.object.specs.Lists.{In}
 use Rattle.job_store.specs.Entries.{Rising}
-use Rattle.job_store.specs.Least.{IsLeast, NonePasses, first_of, least}
+use Rattle.job_store.specs.Least.{IsLeast, NonePasses, least}
 use Rattle.job_store.proofs.least.Least.{least-found, least-none, least-only}
-use Rattle.job_store.proofs.least.Firsts.{first_of-assoc, first_of-none}
 
 -- Lists with the same elements have the same least
 
@@ -32,24 +31,6 @@ module _ {X : Type 0} (test test' : ℕ × X → Bool) (by : X → ℕ) where
               least = λ d i v. let other = forth d i v in found.least d other.0 other.1;
             }))
       ] refl (least-found test' by cs)
-
--- The first of some entries and of those that a list gives
-
-module _ {A X : Type 0} (by : X → ℕ) (f : A → Option (ℕ × X)) where
-  pub first-step : (best best' : Option (ℕ × X)) (late : ℕ × X) (a : A) (items rest : List A) (all : Option (ℕ × X))
-      → best' ≡ first_of by best (Some late) → items ≡ a ∷ rest → f a ≡ Some late
-      → first_of by best (least (λ e. true) by (filter_map f items)) ≡ all
-      → first_of by best' (least (λ e. true) by (filter_map f rest)) ≡ all
-  first-step best best' late a items rest all new one gives was =
-      ap (λ b. first_of by b (least (λ e. true) by (filter_map f rest))) new ∙
-      first_of-assoc by best (Some late) (least (λ e. true) by (filter_map f rest)) ∙
-      ap (λ o. first_of by best (least (λ e. true) by (cons_option o (filter_map f rest)))) (sym gives) ∙
-      ap (λ bs. first_of by best (least (λ e. true) by (filter_map f bs))) (sym one) ∙ was
-
-  pub first-end : (best : Option (ℕ × X)) (items : List A) (all : Option (ℕ × X)) → items ≡ []
-      → first_of by best (least (λ e. true) by (filter_map f items)) ≡ all → best ≡ all
-  first-end best items all none was =
-      first_of-none by best ∙ ap (λ bs. first_of by best (least (λ e. true) by (filter_map f bs))) (sym none) ∙ was
 
 -- What a list gives
 

@@ -1,26 +1,25 @@
 -- Waits that are over.
-use Rattle.std.proofs.Common.{◌≡◌, ℕ, ◌<◌, ◌≤◌, ◌^◌, Bool, true, false, cond, ◌&&◌, List, Option, Some, None, IfSome}
+use Rattle.std.proofs.Common.{◌≡◌, ℕ, ◌<◌, ◌≤◌, ◌^◌, Bool, true, false, cond, List, Option, Some, None, IfSome}
 use Rattle.std.proofs.Common.{option_map, filter_map, is_some, nat_le, refl, sym, ap, subst, ◌∙◌, arith, leb-true}
 use Rattle.std.proofs.Common.{unwrap_or}
 use Rattle.std.specs.declared.ops.Bound.TheVariants.{Included, Unbounded}
 use Rattle.std.specs.BTreeMap.{is_at}
 use Rattle.std.specs.BTreeMap.Range.{range_contains}
 use Rattle.std.specs.BTreeSet.{BTreeSet, contains}
-use Rattle.std.proofs.lemmas.Bool.{cond-true, and_parts, and_from}
+use Rattle.std.proofs.lemmas.Bool.{cond-true}
 use Rattle.std.proofs.lemmas.Bool.Decides.{nat_tests}
 use Rattle.object.specs.Lists.{In}
 use Rattle.job_store.specs.Entries.{value_at}
 use Rattle.job_store.specs.EntryLaws.{value_at-In, value_at-found, value_at-below}
-use Rattle.job_store.specs.Least.{least}
 use Rattle.session_store.specs.declared.session.SessionState.{SessionState}
 use Rattle.session_store.specs.declared.session.Wait.{Wait}
 use Rattle.session_store.specs.declared.place.LinePlace.{LinePlace}
 use Rattle.session_store.specs.declared.time_outs.TimeOuts.{TimeOuts}
-use Rattle.session_store.specs.Sessions.{new_session, session_of, is_waiting, wait_rank, has_timed_out, first_waiting}
+use Rattle.session_store.specs.Sessions.{new_session, session_of, has_timed_out}
 use Rattle.session_store.specs.Lines.{line_cmp, place, IsIn, time_out_place, places_by, StandsByTimeOut, AllStand, StillStand, over_at}
 use Rattle.session_store.proofs.TubeSets.{stays_but}
 use Rattle.session_store.proofs.Places.{same_place, in_keys, some_place}
-use Rattle.session_store.proofs.Found.{least_alike, mapped-in, mapped-from, filtered-in}
+use Rattle.session_store.proofs.Found.{mapped-in, filtered-in}
 
 pub some_entry : (d e : ℕ × SessionState) → Some d ≡ Some e → d ≡ e
 some_entry d e h = cc
@@ -33,7 +32,7 @@ has_ended second (Some s) = nat_le s second
 up_to : (second s x : ℕ) → x < 2 ^ 32 → s ≤ second → range_contains line_cmp Unbounded (Included (place second 4294967295)) (place s x) ≡ true
 up_to second s x below h = grind (arith, nat_tests)
 
-over_waits : (second : ℕ) (wait : Option Wait) → has_timed_out second wait ≡ true → is_some wait ≡ true
+pub over_waits : (second : ℕ) (wait : Option Wait) → has_timed_out second wait ≡ true → is_some wait ≡ true
 over_waits second None e = e
 over_waits second (Some w) e = refl
 
@@ -50,7 +49,7 @@ over-at second sessions p c there over =
     ap seen there ∙ cond-true (has_timed_out second c.wait) (Some (p.session, c)) None over
 
 -- who is seen at a place is there, and its wait is over
-over-from : (second : ℕ) (sessions : List (ℕ × SessionState)) (p : LinePlace) (e : ℕ × SessionState)
+pub over-from : (second : ℕ) (sessions : List (ℕ × SessionState)) (p : LinePlace) (e : ℕ × SessionState)
     → over_at second sessions p ≡ Some e → In e sessions × (has_timed_out second e.1.wait ≡ true)
 over-from second sessions p e seen =
     elim (value_at p.session sessions) as (λ o. value_at p.session sessions ≡ o
@@ -90,23 +89,17 @@ over_in : (second x : ℕ) (wait : Option Wait) (line : BTreeSet LinePlace) → 
 over_in second x None line below h e = cc
 over_in second x (Some w) line below h e = over_by second x w.time_out line below h e
 
-pub over_found : (second : ℕ) (sessions : List (ℕ × SessionState)) (time_outs : TimeOuts)
-    → AllStand (StandsByTimeOut time_outs) sessions
-    → least (λ e. true) wait_rank (filter_map (over_at second sessions) (places_by second time_outs.line))
-    ≡ first_waiting (λ e. has_timed_out second e.1.wait) sessions
-over_found second sessions time_outs all =
-    least_alike (λ e. is_waiting e.1 && has_timed_out second e.1.wait) (λ e. true) wait_rank sessions _ 0 (2 ^ 32) all.rising
-    (λ e i _.
-    let from = mapped-from (over_at second sessions) e _ i in
-    let there = over-from second sessions from.0 e from.2 in
-    (there.0, and_from (is_waiting e.1) (has_timed_out second e.1.wait) (over_waits second e.1.wait there.1) there.1))
-    (λ e i t.
-    let over = (and_parts (is_waiting e.1) (has_timed_out second e.1.wait) t).1 in
+-- each session whose wait is over by the second is seen at its place
+pub late-seen : (second : ℕ) (sessions : List (ℕ × SessionState)) (time_outs : TimeOuts)
+    → AllStand (StandsByTimeOut time_outs) sessions → (e : ℕ × SessionState) → In e sessions
+    → has_timed_out second e.1.wait ≡ true
+    → In e (filter_map (over_at second sessions) (places_by second time_outs.line))
+late-seen second sessions time_outs all e i over =
     let v : value_at e.0 sessions ≡ Some e.1 = value_at-In 0 (2 ^ 32) sessions e all.rising i in
     let p = over_in second e.0 e.1.wait time_outs.line (value_at-below 0 (2 ^ 32) e.0 sessions e.1 all.rising v) (all.each e i) over in
     let seen : over_at second sessions p.0 ≡ Some e =
     over-at second sessions p.0 e.1 (ap (λ x. value_at x sessions) p.2 ∙ v) over ∙ ap (λ x. Some (x, e.1)) p.2 in
-    (mapped-in (over_at second sessions) p.0 e _ p.1 seen, refl))
+    mapped-in (over_at second sessions) p.0 e _ p.1 seen
 
 -- Places that are left
 

@@ -2,7 +2,9 @@ pub mod TubeSets
 pub mod Places
 pub mod Found
 pub mod Late
+pub mod Standers
 pub mod Served
+pub mod LateTurns
 pub mod Enrolled
 pub mod Standing
 pub mod SessionDrafts

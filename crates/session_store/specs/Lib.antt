@@ -4,5 +4,6 @@ pub mod Waits
 pub mod TubeSets
 pub mod Rolls
 pub mod Lines
+pub mod LateLines
 pub mod Drafts
 pub mod WaitLaws

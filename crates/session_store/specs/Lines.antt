@@ -1,5 +1,5 @@
 -- The lines in which waiting sessions stand.
-use Rattle.std.specs.Prelude.{◌≡◌, ◌^◌, ℕ, true, ◌&&◌, List, Option, None, Some, option_map, IfSome, ◌==◌, if◌then◌else◌}
+use Rattle.std.specs.Prelude.{◌≡◌, ◌^◌, ℕ, Bool, true, ◌&&◌, List, Option, None, Some, option_map, IfSome, ◌==◌, if◌then◌else◌}
 use Rattle.std.specs.declared.cmp.Ordering.{Ordering}
 use Rattle.std.specs.Ordering.{nat_cmp, ordering_then}
 use Rattle.std.specs.declared.ops.Bound.TheVariants.{Included, Unbounded}
@@ -87,11 +87,18 @@ abbrev pub over_at : ℕ → List (ℕ × SessionState) → LinePlace → Option
 over_at second sessions p =
     elim (value_at p.session sessions) [ None ↦ None | Some s ↦ if has_timed_out second s.wait then Some (p.session, s) else None ]
 
--- the session at a place, if it waits there for a job of the tube
-abbrev pub waiter_at : List ℕ → List (ℕ × SessionState) → LinePlace → Option (ℕ × SessionState)
-waiter_at tube sessions p =
+-- the session at a place, if it passes the test and its wait has the place's rank
+abbrev pub stander_at : (ℕ × SessionState → Bool) → List (ℕ × SessionState) → LinePlace → Option (ℕ × SessionState)
+stander_at test sessions p =
     elim (value_at p.session sessions) [
       | None ↦ None
-      | Some s ↦ if is_waiting s && is_among tube s.watched && wait_rank
-          s == p.order then Some (p.session, s) else None
+      | Some s ↦ if test (p.session, s) && wait_rank s == p.order then Some (p.session, s) else None
     ]
+
+-- the session waits for a job of the tube, among others
+abbrev pub wants_from : List ℕ → ℕ × SessionState → Bool
+wants_from tube e = is_waiting e.1 && is_among tube e.1.watched
+
+-- the session at a place, if it waits there for a job of the tube
+abbrev pub waiter_at : List ℕ → List (ℕ × SessionState) → LinePlace → Option (ℕ × SessionState)
+waiter_at tube sessions p = stander_at (wants_from tube) sessions p

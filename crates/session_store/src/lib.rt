@@ -1,6 +1,7 @@
 //! The sessions of a work queue: the tubes that they use and watch, who waits, and changes that can be taken back.
 #![tactic(auto)]
 
+mod late_line;
 mod lines;
 mod place;
 mod rolls;
@@ -13,6 +14,7 @@ mod tube_lines;
 mod waiting;
 mod watch_list;
 
+pub use late_line::LateLine;
 pub use session::{Role, SessionState, Wait};
 pub use session_draft::SessionDraft;
 pub use waiting::first;

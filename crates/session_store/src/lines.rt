@@ -1,10 +1,12 @@
-ghost use Rattle.std.specs.Prelude.{◌≡◌, true, OnOk, IfSome, option_map};
+ghost use Rattle.std.specs.Prelude.{◌≡◌, true, IfOk, OnOk, OnErr, IfSome, IsSome, option_map};
 ghost use Rattle.bean_words.specs.NameSets.{AddsAll};
 ghost use Rattle.job_store.specs.LookUps.{is_among};
-ghost use Rattle.session_store.specs.Sessions.{first_waiting, has_timed_out, with_wait};
+ghost use Rattle.session_store.specs.Sessions.{first_waiting, with_wait};
 ghost use Rattle.session_store.specs.Lines.{AllStand, StillStand, HasGrown, IsIn, StandsByTimeOut, StandsByTubes, StandsIn, tube_line, rank_place};
 ghost use Rattle.session_store.specs.Rolls.{IsOn, is_named};
+ghost use Rattle.session_store.specs.LateLines.{HasLate, is_late};
 
+use crate::late_line::LateLine;
 use crate::rolls::Rolls;
 use crate::session::{SessionState, Wait};
 use crate::time_outs::TimeOuts;
@@ -152,16 +154,17 @@ impl Lines {
         self.tubes.first(sessions, tube)
     }
 
-    /// The waiting session of the least rank whose wait is over at this second.
-    pub fn first_late<'a>(
+    /// A line of the sessions whose waits are over at this second. It takes no memory where there is none.
+    pub fn late(
         &self,
-        sessions: &'a BTreeMap<u32, SessionState>,
+        alloc: Global,
+        sessions: &BTreeMap<u32, SessionState>,
         second: u64,
-    ) -> Option<(u32, &'a SessionState)>
+    ) -> Result<LateLine, AllocError>
         requires { AllStand (StandsIn self.now) sessions.now.entries }
-        ensures { option_map (λ e. (e.0, e.1.now)) result
-            ≡ first_waiting (λ e. has_timed_out second e.1.wait) sessions.now.entries }
+        ensures ok { IfOk result (λ late. HasLate second late sessions.now.entries) }
+        ensures err { OnErr result (IsSome (first_waiting (is_late second) sessions.now.entries)) }
     {
-        self.time_outs.first(sessions, second)
+        self.time_outs.late(alloc, sessions, second)
     }
 }

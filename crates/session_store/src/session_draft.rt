@@ -1,13 +1,15 @@
-ghost use Rattle.std.specs.Prelude.{◌≡◌, ◌^◌, ◌⊎◌, ℕ, List, [], true, None, IsSome, IfOk, OnOk, OnErr, length, option_map};
+ghost use Rattle.std.specs.Prelude.{◌≡◌, ◌^◌, ◌⊎◌, ℕ, List, [], true, None, IsSome, IfSome, IfOk, OnOk, OnErr, length, option_map};
 ghost use Rattle.object.specs.Lists.{In};
 ghost use Rattle.job_store.specs.Entries.{Rising, value_at, with_value, altered, without};
 ghost use Rattle.job_store.specs.LookUps.{is_among};
 ghost use Rattle.session_store.specs.Drafts.{DraftsState, IsKept, KeepsDraft, TakesDraftBack};
-ghost use Rattle.session_store.specs.Sessions.{new_session, session_of, known, with_wait, with_role, first_waiting, has_timed_out};
+ghost use Rattle.session_store.specs.Sessions.{new_session, session_of, known, with_wait, with_wait_ended, with_role, first_waiting};
 ghost use Rattle.session_store.specs.Lines.{AllStand, StandsIn};
+ghost use Rattle.session_store.specs.LateLines.{HasLate, is_late};
 ghost use Rattle.session_store.specs.Rolls.{is_named};
 ghost use Rattle.session_store.specs.WatchLists.{joined, left_out};
 
+use crate::late_line::LateLine;
 use crate::lines::Lines;
 use crate::session::{Role, SessionState, Wait};
 use crate::session_change::{ignore, set_role, set_used, set_wait, watch};
@@ -89,12 +91,24 @@ impl SessionDraft {
         self.lines.first_watcher(&self.sessions, tube)
     }
 
-    /// The waiting session of the least rank whose wait is over at this second.
-    pub fn first_late(&self, second: u64) -> Option<(u32, &SessionState)>
-        ensures { option_map (λ e. (e.0, e.1.now)) result
-            ≡ first_waiting (λ e. has_timed_out second e.1.wait) self.now.now }
+    /// A line of the sessions whose waits are over at this second. It takes no memory where there is none.
+    pub fn late(&self, second: u64) -> Result<LateLine, AllocError>
+        ensures ok { IfOk result (λ late. HasLate second late self.now.now) }
+        ensures err { OnErr result (IsSome (first_waiting (is_late second) self.now.now)) }
     {
-        self.lines.first_late(&self.sessions, second)
+        self.lines.late(self.alloc, &self.sessions, second)
+    }
+
+    /// Takes the first session whose wait is over at this second out of a line of these: the waiting one of the least rank.
+    /// The line is then one of those that are left when that wait has ended.
+    pub fn next_late(&self, late: &mut LateLine, second: u64) -> Option<(u32, &SessionState)>
+        requires { HasLate second late.old self.now.now }
+        ensures first { option_map (λ e. (e.0, e.1.now)) result
+            ≡ first_waiting (is_late second) self.now.now }
+        ensures left { IfSome result (λ e.
+            HasLate second late.new (with_wait_ended e.0 self.now.now)) }
+    {
+        late.next(&self.sessions, second)
     }
 
     /// Whether a session uses or watches the tube.

@@ -1,10 +1,11 @@
-ghost use Rattle.std.specs.Prelude.{◌≡◌, OnOk, IfSome, option_map};
-ghost use Rattle.session_store.specs.Sessions.{first_waiting, has_timed_out, session_of};
+ghost use Rattle.std.specs.Prelude.{◌≡◌, IfOk, OnOk, OnErr, IfSome, IsSome, option_map};
+ghost use Rattle.session_store.specs.Sessions.{first_waiting, session_of};
 ghost use Rattle.session_store.specs.Lines.{AllStand, StillStand, HasAll, IsIn, StandsByTimeOut, over_at, time_out_place};
+ghost use Rattle.session_store.specs.LateLines.{HasLate, is_late};
 
+use crate::late_line::LateLine;
 use crate::place::{LinePlace, time_out_place};
 use crate::session::{SessionState, Wait};
-use crate::waiting::first;
 use std::alloc::{AllocError, Global};
 use std::collections::{BTreeMap, BTreeSet};
 
@@ -73,26 +74,27 @@ impl TimeOuts {
         }
     }
 
-    /// The waiting session of the least rank whose wait is over at this second.
-    pub fn first<'a>(
+    /// A line of the sessions whose waits are over at this second. It takes no memory where there is none.
+    pub fn late(
         &self,
-        sessions: &'a BTreeMap<u32, SessionState>,
+        alloc: Global,
+        sessions: &BTreeMap<u32, SessionState>,
         second: u64,
-    ) -> Option<(u32, &'a SessionState)>
+    ) -> Result<LateLine, AllocError>
         requires { AllStand (StandsByTimeOut self.now) sessions.now.entries }
-        ensures { option_map (λ e. (e.0, e.1.now)) result
-            ≡ first_waiting (λ e. has_timed_out second e.1.wait) sessions.now.entries }
+        ensures ok { IfOk result (λ late. HasLate second late sessions.now.entries) }
+        ensures err { OnErr result (IsSome (first_waiting (is_late second) sessions.now.entries)) }
     {
         let last = LinePlace {
             order: second,
             session: u32::MAX,
         };
-        let mut best = None;
+        let mut late = LateLine::new(alloc);
         for place in self.line.range(..=last) {
-            if let Some(late) = over_at(sessions, second, *place) {
-                best = first(best, late);
+            if let Some((number, session)) = over_at(sessions, second, *place) {
+                late.join(number, session.wait)?;
             }
         }
-        best
+        Ok(late)
     }
 }

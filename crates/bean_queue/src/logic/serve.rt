@@ -1,4 +1,5 @@
-ghost use Rattle.std.specs.Prelude.{◌≡◌, ◌+◌, option_map};
+ghost use Rattle.std.specs.Prelude.{◌≡◌, ◌+◌, true, IfOk, option_map};
+ghost use Rattle.session_store.specs.LateLines.{HasLate};
 ghost use Rattle.bean_queue.specs.Turns.{next_job, serve_turn, deadline_turn, timeout_turn, all_turns};
 ghost use Rattle.bean_queue.specs.Calls.{DraftsOutcome, DraftsTurn};
 ghost use Rattle.bean_queue.specs.Woken.{Covers};
@@ -10,6 +11,7 @@ use crate::waiting::best_offer;
 use bean_words::{Name, Reply};
 use job_store::{Job, JobMap, Mark, State};
 use object::{Answer, Key, Value};
+use session_store::LateLine;
 use std::alloc::{AllocError, Global};
 
 impl<M: JobMap> Logic<M> {
@@ -116,17 +118,24 @@ impl<M: JobMap> Logic<M> {
         Ok(())
     }
 
-    /// Tells the first session whose wait is over so, and whether there was one.
-    fn tell_timeout(&mut self, answers: &mut Vec<Answer<Reply>>) -> Result<bool, AllocError>
-        ensures { DraftsTurn timeout_turn self.old self.new answers.old.items answers.new.items
+    /// Tells the first session whose wait is over so, and whether there was one. It stands in this line.
+    fn tell_timeout(
+        &mut self,
+        late: &mut LateLine,
+        answers: &mut Vec<Answer<Reply>>,
+    ) -> Result<bool, AllocError>
+        requires { HasLate self.old.now.now late.old self.old.now.sessions }
+        ensures turn { DraftsTurn timeout_turn self.old self.new answers.old.items answers.new.items
             result }
+        ensures left { IfOk result (λ more. more ≡ true
+            → HasLate self.new.now.now late.new self.new.now.sessions) }
     {
-        let Some((session, late)) = self.sessions.first_late(self.counters.now) else {
+        let Some((session, waiter)) = self.sessions.next_late(late, self.counters.now) else {
             return Ok(false);
         };
         let to = Key {
             session,
-            number: late.wait_number(),
+            number: waiter.wait_number(),
         };
         answers.push(Answer {
             to,
@@ -141,7 +150,8 @@ impl<M: JobMap> Logic<M> {
         ensures { DraftsOutcome self.old self.new answers.old.items answers.new.items
             (all_turns timeout_turn self.old.now) result }
     {
-        'turns: while self.tell_timeout(answers)? {}
+        let mut late = self.sessions.late(self.counters.now)?;
+        'turns: while self.tell_timeout(&mut late, answers)? {}
         Ok(())
     }
 }

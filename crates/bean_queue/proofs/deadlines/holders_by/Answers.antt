@@ -1,6 +1,7 @@
-use Rattle.std.proofs.Common.{◌≡◌, ℕ, ◌<◌, ◌^◌, Option, Some, Result, Ok, Err, OnErr, option_map, Bor, sym, ap, subst}
+use Rattle.std.proofs.Common.{◌≡◌, ℕ, ◌<◌, ◌^◌, Option, Some, option_map, Bor, sym, ap, subst}
 use Rattle.job_store.specs.declared.job.Job.{Job}
 use Rattle.job_store.specs.LookUps.{first_due_after}
+use Rattle.object.proofs.KeyMaps.{on_err}
 use Rattle.bean_queue.proofs.due.Holders.{AreNoted, IsNoted, far, noted-first, noted-next, noted-all, noted-by, noted-often, nearer, some-holder}
 use Rattle.bean_queue.specs.Holders.{waits_at}
 use Rattle.bean_queue.proofs.deadlines.holders_by.Goals as goal
@@ -53,10 +54,6 @@ returns-clause-ok g c =
     noted-all (seen c.jobs.next) c.jobs.numbers.items c.args.second
     (g.M.JobMap.entries c.args.jobs.now) c.args.sessions.now.entries (ap seen c.in_default.is) c.jobs.invariant
 
-if_err : {T E P : Type 0} (r : Result T E) → P → OnErr r P
-if_err (Ok v) h = tt
-if_err (Err e) h = h
-
 pub returns-in_err-note_holder-clause-err : goal.returns-in_err-note_holder-clause-err
 unfolding seen
 returns-in_err-note_holder-clause-err g c =
@@ -65,7 +62,7 @@ returns-in_err-note_holder-clause-err g c =
     let were : AreNoted (waits_at c.args.sessions.now.entries) (Some n) c.jobs.numbers.items c.args.second jobs =
     subst (λ o. AreNoted (waits_at c.args.sessions.now.entries) (seen o) c.jobs.numbers.items c.args.second jobs)
     c.in-Some.is c.jobs.invariant in
-    if_err c.from_residual.result (some-holder c.args.second n jobs c.args.sessions.now.entries were.due c.in_err-note_holder.ensures.err)
+    on_err c.from_residual.result (some-holder c.args.second n jobs c.args.sessions.now.entries were.due c.in_err-note_holder.ensures.err)
 
 pub returns-clause-often : goal.returns-clause-often
 unfolding seen

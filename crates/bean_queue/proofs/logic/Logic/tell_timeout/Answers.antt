@@ -9,21 +9,21 @@ use Rattle.bean_queue.specs.Turns.{IsTurn, timeout_turn}
 use Rattle.bean_queue.proofs.best.Turned.{none-told_timeout, told_timeout}
 use Rattle.bean_queue.proofs.logic.Logic.tell_timeout.Goals as goal
 
-pub returns-in_default : goal.returns-in_default
-returns-in_default g c = record {
+pub returns-in_default-clause-turn : goal.returns-in_default-clause-turn
+returns-in_default-clause-turn g c = record {
   turn =
       let s = state_of c.self.inside.counters c.self.inside.jobs.now c.self.inside.sessions.now c.self.inside.pauses.now.pauses c.self.inside.tubes.now in
-      let nobody : first_waiting (λ e. has_timed_out s.now e.1.wait) s.sessions ≡ None = sym c.in_default.ensures in
+      let nobody : first_waiting (λ e. has_timed_out s.now e.1.wait) s.sessions ≡ None = sym c.in_default.ensures.first in
       (ap (λ (d : Draft QueueState). timeout_turn d.now) (sym c.self.view_is) ∙ none-told_timeout s nobody, refl, refl);
   before = refl;
 }
 
-pub returns : goal.returns
-returns g c = record {
+pub returns-clause-turn : goal.returns-clause-turn
+returns-clause-turn g c = record {
   turn =
       let s = state_of c.self.inside.counters c.self.inside.jobs.now c.self.inside.sessions.now c.self.inside.pauses.now.pauses c.self.inside.tubes.now in
-      let w : ℕ × SessionState = (c.in-Some.session, c.in-Some.late.now) in
-      let first : first_waiting (λ e. has_timed_out s.now e.1.wait) s.sessions ≡ Some w = sym c.in-Some.ensures in
+      let w : ℕ × SessionState = (c.in-Some.session, c.in-Some.waiter.now) in
+      let first : first_waiting (λ e. has_timed_out s.now e.1.wait) s.sessions ≡ Some w = sym c.in-Some.ensures.first in
       subst (λ (d : Draft QueueState). IsTurn timeout_turn d.now
       (state_of c.self.inside.counters c.self.inside.jobs.now c.set_wait.new.self.now c.self.inside.pauses.now.pauses c.self.inside.tubes.now)
       c.args.answers.now.items c.push.new.self.items true) c.self.view_is
