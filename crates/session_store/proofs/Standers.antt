@@ -49,7 +49,7 @@ apart_orders Less e = tt
 apart_orders Equal e = cc
 apart_orders Greater e = cc
 
-less_by : (p q : LinePlace) → line_cmp p q ≡ Less → (p.order < q.order) ⊎ ((p.order ≡ q.order) × (p.session < q.session))
+pub less_by : (p q : LinePlace) → line_cmp p q ≡ Less → (p.order < q.order) ⊎ ((p.order ≡ q.order) × (p.session < q.session))
 less_by p q e =
     elim (cases_order p.order q.order) as (λ v. (p.order < q.order) ⊎ ((p.order ≡ q.order) × (p.session < q.session))) [
       | inr (inl below) ↦ inl below

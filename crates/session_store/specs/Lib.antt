@@ -5,5 +5,6 @@ pub mod TubeSets
 pub mod Rolls
 pub mod Lines
 pub mod LateLines
+pub mod Fronts
 pub mod Drafts
 pub mod WaitLaws

@@ -1,6 +1,7 @@
 //! The sessions of a work queue: the tubes that they use and watch, who waits, and changes that can be taken back.
 #![tactic(auto)]
 
+mod fronts;
 mod late_line;
 mod lines;
 mod place;
@@ -14,6 +15,7 @@ mod tube_lines;
 mod waiting;
 mod watch_list;
 
+pub use fronts::Fronts;
 pub use late_line::LateLine;
 pub use session::{Role, SessionState, Wait};
 pub use session_draft::SessionDraft;

@@ -5,7 +5,9 @@ ghost use Rattle.session_store.specs.Sessions.{first_waiting, with_wait};
 ghost use Rattle.session_store.specs.Lines.{AllStand, StillStand, HasGrown, IsIn, StandsByTimeOut, StandsByTubes, StandsIn, tube_line, rank_place};
 ghost use Rattle.session_store.specs.Rolls.{IsOn, is_named};
 ghost use Rattle.session_store.specs.LateLines.{HasLate, is_late};
+ghost use Rattle.session_store.specs.Fronts.{AreFronts};
 
+use crate::fronts::Fronts;
 use crate::late_line::LateLine;
 use crate::rolls::Rolls;
 use crate::session::{SessionState, Wait};
@@ -141,17 +143,21 @@ impl Lines {
         self.rolls.add_tubes(sessions, names)
     }
 
-    /// The waiting session of the least rank that watches the tube.
-    pub fn first_watcher<'a>(
+    /// The waiting session of the least rank that watches the tube. It is looked for from the tube's front on, which
+    /// moves up to it.
+    pub fn next_watcher<'a>(
         &self,
         sessions: &'a BTreeMap<u32, SessionState>,
         tube: &Name,
+        fronts: &mut Fronts,
     ) -> Option<(u32, &'a SessionState)>
-        requires { AllStand (StandsIn self.now) sessions.now.entries }
-        ensures { option_map (λ e. (e.0, e.1.now)) result
+        requires stand { AllStand (StandsIn self.now) sessions.now.entries }
+        requires fronts { AreFronts fronts.old sessions.now.entries }
+        ensures first { option_map (λ e. (e.0, e.1.now)) result
             ≡ first_waiting (λ e. is_among tube.now e.1.watched) sessions.now.entries }
+        ensures fronts { AreFronts fronts.new sessions.now.entries }
     {
-        self.tubes.first(sessions, tube)
+        self.tubes.next(sessions, tube, fronts)
     }
 
     /// A line of the sessions whose waits are over at this second. It takes no memory where there is none.

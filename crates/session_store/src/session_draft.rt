@@ -6,9 +6,12 @@ ghost use Rattle.session_store.specs.Drafts.{DraftsState, IsKept, KeepsDraft, Ta
 ghost use Rattle.session_store.specs.Sessions.{new_session, session_of, known, with_wait, with_wait_ended, with_role, first_waiting};
 ghost use Rattle.session_store.specs.Lines.{AllStand, StandsIn};
 ghost use Rattle.session_store.specs.LateLines.{HasLate, is_late};
+ghost use Rattle.session_store.specs.Fronts.{AreFronts};
+ghost use Rattle.session_store.specs.declared.session.SessionState.{SessionState};
 ghost use Rattle.session_store.specs.Rolls.{is_named};
 ghost use Rattle.session_store.specs.WatchLists.{joined, left_out};
 
+use crate::fronts::Fronts;
 use crate::late_line::LateLine;
 use crate::lines::Lines;
 use crate::session::{Role, SessionState, Wait};
@@ -83,12 +86,22 @@ impl SessionDraft {
         &self.sessions
     }
 
-    /// The waiting session of the least rank that watches the tube.
-    pub fn first_watcher(&self, tube: &Name) -> Option<(u32, &SessionState)>
-        ensures { option_map (λ e. (e.0, e.1.now)) result
-            ≡ first_waiting (λ e. is_among tube.now e.1.watched) self.now.now }
+    /// The fronts of all tubes, where their lines begin. They take no memory.
+    pub fn fronts(&self) -> Fronts
+        ensures { (sessions : List (ℕ × SessionState)) → AreFronts result sessions }
     {
-        self.lines.first_watcher(&self.sessions, tube)
+        Fronts::new(self.alloc)
+    }
+
+    /// The waiting session of the least rank that watches the tube. It is looked for from the tube's front on, which
+    /// moves up to it.
+    pub fn next_watcher(&self, tube: &Name, fronts: &mut Fronts) -> Option<(u32, &SessionState)>
+        requires { AreFronts fronts.old self.now.now }
+        ensures first { option_map (λ e. (e.0, e.1.now)) result
+            ≡ first_waiting (λ e. is_among tube.now e.1.watched) self.now.now }
+        ensures fronts { AreFronts fronts.new self.now.now }
+    {
+        self.lines.next_watcher(&self.sessions, tube, fronts)
     }
 
     /// A line of the sessions whose waits are over at this second. It takes no memory where there is none.

@@ -3,8 +3,10 @@ ghost use Rattle.std.specs.BTreeSet.{IsOrdered};
 ghost use Rattle.job_store.specs.LookUps.{is_among};
 ghost use Rattle.session_store.specs.Sessions.{first_waiting};
 ghost use Rattle.session_store.specs.declared.place.LinePlace.{LinePlace};
-ghost use Rattle.session_store.specs.Lines.{AllStand, StillStand, HasAll, IsIn, StandsByTubes, tube_line, line_cmp, rank_place, waiter_at};
+ghost use Rattle.session_store.specs.Lines.{AllStand, StillStand, HasAll, IsIn, StandsByTubes, tube_line, line_cmp, rank_place, places_from, waiter_at};
+ghost use Rattle.session_store.specs.Fronts.{AreFronts};
 
+use crate::fronts::Fronts;
 use crate::place::{LinePlace, rank_place};
 use crate::session::{SessionState, Wait};
 use bean_words::Name;
@@ -37,17 +39,18 @@ fn waiter_at<'a>(
     }
 }
 
-/// The first session in a line that stands there.
+/// The first session in a line that stands there, from a place on.
 fn first_standing<'a>(
     line: &BTreeSet<LinePlace>,
+    front: LinePlace,
     sessions: &'a BTreeMap<u32, SessionState>,
     tube: &Name,
 ) -> Option<(u32, &'a SessionState)>
     ensures first { option_map (λ e. (e.0, e.1.now)) result
-        ≡ slice_get (filter_map (waiter_at tube.now sessions.now.entries) line.now.keys) 0 }
+        ≡ slice_get (filter_map (waiter_at tube.now sessions.now.entries) (places_from front line.now)) 0 }
     ensures ordered { IsOrdered line_cmp line.now }
 {
-    for place in line {
+    for place in line.range(front..) {
         if let Some(found) = waiter_at(sessions, tube, *place) {
             return Some(found);
         }
@@ -177,19 +180,35 @@ impl TubeLines {
         }
     }
 
-    /// The waiting session of the least rank that watches the tube.
-    pub fn first<'a>(
+    /// The waiting session of the least rank that watches the tube. It is looked for from the tube's front on, which
+    /// moves up to it.
+    pub fn next<'a>(
         &self,
         sessions: &'a BTreeMap<u32, SessionState>,
         tube: &Name,
+        fronts: &mut Fronts,
     ) -> Option<(u32, &'a SessionState)>
-        requires { AllStand (StandsByTubes self.now) sessions.now.entries }
-        ensures { option_map (λ e. (e.0, e.1.now)) result
+        requires stand { AllStand (StandsByTubes self.now) sessions.now.entries }
+        requires fronts { AreFronts fronts.old sessions.now.entries }
+        ensures first { option_map (λ e. (e.0, e.1.now)) result
             ≡ first_waiting (λ e. is_among tube.now e.1.watched) sessions.now.entries }
+        ensures fronts { AreFronts fronts.new sessions.now.entries }
     {
-        match self.lines.get(tube) {
-            Some(line) => first_standing(line, sessions, tube),
-            None => None,
+        let Some(line) = self.lines.get(tube) else {
+            return None;
+        };
+        let Some((number, session)) = first_standing(line, fronts.front(tube), sessions, tube)
+        else {
+            return None;
+        };
+        let place = LinePlace {
+            order: session.rank(),
+            session: number,
+        };
+        // Mostly it is the first of all, and there is nothing to note.
+        if line.first() != Some(&place) {
+            fronts.note(tube, place);
         }
+        Some((number, session))
     }
 }

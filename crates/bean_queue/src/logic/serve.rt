@@ -1,4 +1,5 @@
 ghost use Rattle.std.specs.Prelude.{◌≡◌, ◌+◌, true, IfOk, option_map};
+ghost use Rattle.session_store.specs.Fronts.{AreFronts};
 ghost use Rattle.session_store.specs.LateLines.{HasLate};
 ghost use Rattle.bean_queue.specs.Turns.{next_job, serve_turn, deadline_turn, timeout_turn, all_turns};
 ghost use Rattle.bean_queue.specs.Calls.{DraftsOutcome, DraftsTurn};
@@ -11,16 +12,18 @@ use crate::waiting::best_offer;
 use bean_words::{Name, Reply};
 use job_store::{Job, JobMap, Mark, State};
 use object::{Answer, Key, Value};
-use session_store::LateLine;
+use session_store::{Fronts, LateLine};
 use std::alloc::{AllocError, Global};
 
 impl<M: JobMap> Logic<M> {
     /// Of the best jobs of all waiting sessions, the most urgent. It is looked for in these tubes alone.
-    fn next_job(&self, woken: &[Name]) -> Option<(u64, &Job)>
-        requires { Covers woken.now self.now.now }
-        ensures { option_map (λ e. (e.0, e.1.now)) result ≡ next_job self.now.now }
+    fn next_job(&self, woken: &[Name], fronts: &mut Fronts) -> Option<(u64, &Job)>
+        requires covers { Covers woken.now self.now.now }
+        requires fronts { AreFronts fronts.old self.now.now.sessions }
+        ensures best { option_map (λ e. (e.0, e.1.now)) result ≡ next_job self.now.now }
+        ensures fronts { AreFronts fronts.new self.now.now.sessions }
     {
-        best_offer(self.jobs.map(), &self.sessions, &self.pauses, woken)
+        best_offer(self.jobs.map(), &self.sessions, &self.pauses, woken, fronts)
     }
 
     /// Gives the next job to the session whose turn it is, and tells whether there was one. It is in one of these
@@ -28,16 +31,19 @@ impl<M: JobMap> Logic<M> {
     fn serve_one(
         &mut self,
         woken: &[Name],
+        fronts: &mut Fronts,
         answers: &mut Vec<Answer<Reply>>,
     ) -> Result<bool, AllocError>
-        requires { Covers woken.now self.old.now }
-        ensures { DraftsTurn serve_turn self.old self.new answers.old.items answers.new.items
+        requires covers { Covers woken.now self.old.now }
+        requires fronts { AreFronts fronts.old self.old.now.sessions }
+        ensures turn { DraftsTurn serve_turn self.old self.new answers.old.items answers.new.items
             result }
+        ensures fronts { IfOk result (λ more. AreFronts fronts.new self.new.now.sessions) }
     {
-        let Some((id, job)) = self.next_job(woken) else {
+        let Some((id, job)) = self.next_job(woken, fronts) else {
             return Ok(false);
         };
-        let Some((session, watcher)) = self.sessions.first_watcher(&job.tube) else {
+        let Some((session, watcher)) = self.sessions.next_watcher(&job.tube, fronts) else {
             return Ok(false);
         };
         let to = Key {
@@ -66,7 +72,8 @@ impl<M: JobMap> Logic<M> {
         ensures { DraftsOutcome self.old self.new answers.old.items answers.new.items
             (all_turns serve_turn self.old.now) result }
     {
-        'turns: while self.serve_one(woken, answers)? {}
+        let mut fronts = self.sessions.fronts();
+        'turns: while self.serve_one(woken, &mut fronts, answers)? {}
         Ok(())
     }
 

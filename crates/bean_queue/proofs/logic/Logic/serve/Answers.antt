@@ -5,21 +5,22 @@ use Rattle.bean_queue.proofs.calm.Woken.{covers-turn}
 use Rattle.bean_queue.proofs.logic.Logic.serve.Goals as goal
 
 pub turns-smaller : goal.turns-smaller
-turns-smaller g c = (turn_made serve_turn serves _ _ _ _ c.in_ok-serve_one.field-0 c.if-branch.true c.in_ok-serve_one.ensures.turn).fewer
+turns-smaller g c = (turn_made serve_turn serves _ _ _ _ c.in_ok-serve_one.field-0 c.if-branch.true c.in_ok-serve_one.ensures.turn.turn).fewer
 
 pub turns-preserved : goal.turns-preserved
 turns-preserved g c =
-    let r = turn_made serve_turn serves _ _ _ _ c.in_ok-serve_one.field-0 c.if-branch.true c.in_ok-serve_one.ensures.turn in
+    let r = turn_made serve_turn serves _ _ _ _ c.in_ok-serve_one.field-0 c.if-branch.true c.in_ok-serve_one.ensures.turn.turn in
     record {
-      covers = covers-turn c.args.woken.now c.turns.self.now _ _ _ _ c.in_ok-serve_one.ensures.turn c.turns.invariant.covers;
+      covers = covers-turn c.args.woken.now c.turns.self.now _ _ _ _ c.in_ok-serve_one.ensures.turn.turn c.turns.invariant.covers;
+      fronts = c.in_ok-serve_one.ensures.fronts;
       state = r.state ∙ c.turns.invariant.state;
       answers = r.answers ∙ c.turns.invariant.answers;
-      before = c.serve_one.ensures.before ∙ c.turns.invariant.before;
+      before = c.serve_one.ensures.turn.before ∙ c.turns.invariant.before;
     }
 
 pub returns : goal.returns
 returns g c = record {
-  state = (no_turn serve_turn serves _ _ _ _ c.in_ok-serve_one.field-0 c.if-branch.false c.in_ok-serve_one.ensures.turn).state ∙ c.turns.invariant.state;
-  answers = (no_turn serve_turn serves _ _ _ _ c.in_ok-serve_one.field-0 c.if-branch.false c.in_ok-serve_one.ensures.turn).answers ∙ c.turns.invariant.answers;
-  before = c.serve_one.ensures.before ∙ c.turns.invariant.before;
+  state = (no_turn serve_turn serves _ _ _ _ c.in_ok-serve_one.field-0 c.if-branch.false c.in_ok-serve_one.ensures.turn.turn).state ∙ c.turns.invariant.state;
+  answers = (no_turn serve_turn serves _ _ _ _ c.in_ok-serve_one.field-0 c.if-branch.false c.in_ok-serve_one.ensures.turn.turn).answers ∙ c.turns.invariant.answers;
+  before = c.serve_one.ensures.turn.before ∙ c.turns.invariant.before;
 }

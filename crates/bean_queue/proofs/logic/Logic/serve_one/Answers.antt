@@ -6,6 +6,8 @@ use Rattle.object.specs.declared.command.Answer.{Answer}
 use Rattle.session_store.specs.declared.session.SessionState.{SessionState}
 use Rattle.session_store.specs.Sessions.{first_waiting}
 use Rattle.session_store.specs.Drafts.{Draft}
+use Rattle.session_store.specs.Fronts.{AreFronts}
+use Rattle.session_store.proofs.Served.{fronts-ended}
 use Rattle.bean_words.specs.declared.reply.Reply.{Reply}
 use Rattle.job_store.specs.LookUps.{is_among}
 use Rattle.bean_queue.specs.Queue.{QueueState, state_of}
@@ -13,34 +15,34 @@ use Rattle.bean_queue.specs.Turns.{IsTurn, next_job, serve_turn}
 use Rattle.bean_queue.proofs.best.Turned.{none-served, nobody-served, served}
 use Rattle.bean_queue.proofs.logic.Logic.serve_one.Goals as goal
 
-pub returns-in_default : goal.returns-in_default
-returns-in_default g c = record {
+pub returns-in_default-clause-turn : goal.returns-in_default-clause-turn
+returns-in_default-clause-turn g c = record {
   turn =
       let s = state_of c.self.inside.counters c.self.inside.jobs.now c.self.inside.sessions.now c.self.inside.pauses.now.pauses c.self.inside.tubes.now in
-      let next : next_job s ≡ None = ap (λ (d : Draft QueueState). next_job d.now) c.self.view_is ∙ sym c.in_default.ensures in
+      let next : next_job s ≡ None = ap (λ (d : Draft QueueState). next_job d.now) c.self.view_is ∙ sym c.in_default.ensures.best in
       (ap (λ (d : Draft QueueState). serve_turn d.now) (sym c.self.view_is) ∙ none-served s next, refl, refl);
   before = refl;
 }
 
-pub returns-in_default-first_watcher : goal.returns-in_default-first_watcher
-returns-in_default-first_watcher g c = record {
+pub returns-in_default-next_watcher-clause-turn : goal.returns-in_default-next_watcher-clause-turn
+returns-in_default-next_watcher-clause-turn g c = record {
   turn =
       let s = state_of c.self.inside.counters c.self.inside.jobs.now c.self.inside.sessions.now c.self.inside.pauses.now.pauses c.self.inside.tubes.now in
       let j : ℕ × Job = (c.in-Some.id, c.in-Some.job.now) in
-      let next : next_job s ≡ Some j = ap (λ (d : Draft QueueState). next_job d.now) c.self.view_is ∙ sym c.in-Some.ensures in
-      let nobody : first_waiting (λ e. is_among j.1.tube e.1.watched) s.sessions ≡ None = sym c.in_default-first_watcher.ensures in
+      let next : next_job s ≡ Some j = ap (λ (d : Draft QueueState). next_job d.now) c.self.view_is ∙ sym c.in-Some.ensures.best in
+      let nobody : first_waiting (λ e. is_among j.1.tube e.1.watched) s.sessions ≡ None = sym c.in_default-next_watcher.ensures.first in
       (ap (λ (d : Draft QueueState). serve_turn d.now) (sym c.self.view_is) ∙ nobody-served s j next nobody, refl, refl);
   before = refl;
 }
 
-pub returns : goal.returns
-returns g c = record {
+pub returns-clause-turn : goal.returns-clause-turn
+returns-clause-turn g c = record {
   turn =
       let s = state_of c.self.inside.counters c.self.inside.jobs.now c.self.inside.sessions.now c.self.inside.pauses.now.pauses c.self.inside.tubes.now in
       let j : ℕ × Job = (c.in-Some.id, c.in-Some.job.now) in
-      let w : ℕ × SessionState = (c.in-Some-first_watcher.session, c.in-Some-first_watcher.watcher.now) in
-      let next : next_job s ≡ Some j = ap (λ (d : Draft QueueState). next_job d.now) c.self.view_is ∙ sym c.in-Some.ensures in
-      let first : first_waiting (λ e. is_among j.1.tube e.1.watched) s.sessions ≡ Some w = sym c.in-Some-first_watcher.ensures in
+      let w : ℕ × SessionState = (c.in-Some-next_watcher.session, c.in-Some-next_watcher.watcher.now) in
+      let next : next_job s ≡ Some j = ap (λ (d : Draft QueueState). next_job d.now) c.self.view_is ∙ sym c.in-Some.ensures.best in
+      let first : first_waiting (λ e. is_among j.1.tube e.1.watched) s.sessions ≡ Some w = sym c.in-Some-next_watcher.ensures.first in
       subst (λ (d : Draft QueueState). IsTurn serve_turn d.now
       (state_of c.self.inside.counters c.set_state.new.self.now c.set_wait.new.self.now
       c.self.inside.pauses.now.pauses c.self.inside.tubes.now) c.args.answers.now.items c.push.new.self.items true) c.self.view_is
@@ -53,3 +55,8 @@ returns g c = record {
       in c.args.answers.now.items ++ a ∷ []) c.wait_number.ensures c.in_ok-body.ensures));
   before = search rules;
 }
+
+pub returns-clause-fronts : goal.returns-clause-fronts
+returns-clause-fronts g c =
+    subst (AreFronts c.next_watcher.new.fronts) (sym c.in_ok-set_wait.ensures.now)
+    (fronts-ended c.in-Some-next_watcher.session c.self.inside.sessions.now c.next_watcher.new.fronts c.next_watcher.ensures.fronts)
