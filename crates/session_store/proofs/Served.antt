@@ -25,7 +25,7 @@ use Rattle.session_store.specs.declared.session.SessionState.{SessionState}
 use Rattle.session_store.specs.declared.place.LinePlace.{LinePlace}
 use Rattle.session_store.specs.declared.tube_lines.TubeLines.{TubeLines}
 use Rattle.session_store.specs.Sessions.{is_waiting, wait_rank, first_waiting, with_wait, with_wait_ended}
-use Rattle.session_store.specs.Lines.{line_cmp, place, IsIn, rank_place, tube_line, places_from, StandsByTubes, AllStand, StillStand, wants_from, waiter_at}
+use Rattle.session_store.specs.Lines.{line_cmp, place, IsIn, rank_place, tube_line, line_from, StandsByTubes, AllStand, StillStand, wants_from, waiter_at}
 use Rattle.session_store.specs.declared.fronts.Fronts.{Fronts}
 use Rattle.session_store.specs.Fronts.{front_of, IsFront, AreFronts}
 use Rattle.session_store.proofs.TubeSets.{found-set, no-set}
@@ -72,13 +72,13 @@ not-before p q never =
 -- each session that waits for a job of the tube is seen at its place in the line, from the front on
 seen-from : (tube : List ℕ) (sessions : List (ℕ × SessionState)) (tubes : TubeLines) (p : LinePlace)
     → AllStand (StandsByTubes tubes) sessions → IsFront tube sessions p
-    → AreSeen (wants_from tube) sessions (places_from p (tube_line tube tubes))
+    → AreSeen (wants_from tube) sessions (line_from p (tube_line tube tubes))
 seen-from tube sessions tubes p all front e i t =
     let both = and_parts (is_waiting e.1) (is_among tube e.1.watched) t in
     let q : LinePlace = place (wait_rank e.1) e.0 in
     let stands : IsIn (tube_line tube tubes) q =
     subst (λ o. IfSome o (IsIn (tube_line tube tubes))) (waiting-place e.0 e.1 both.0) (all.each e i tube both.1) in
-    mapped-in (waiter_at tube sessions) q e (places_from p (tube_line tube tubes))
+    mapped-in (waiter_at tube sessions) q e (line_from p (tube_line tube tubes))
     (filtered-in (range_contains line_cmp (Included p) Unbounded) q (tube_line tube tubes).keys
     (in_keys q (tube_line tube tubes).keys stands) (not-before p q (front e i t)))
     (standing-at (wants_from tube) sessions q e.1 (value_at-In 0 (2 ^ 32) sessions e all.rising i) t refl)
@@ -87,14 +87,14 @@ seen-from tube sessions tubes p all front e i t =
 pub first-in-line : (tube : List ℕ) (sessions : List (ℕ × SessionState)) (tubes : TubeLines) (line : BTreeSet LinePlace)
     (fronts : Fronts) (p : LinePlace) → Some line ≡ get (slice_cmp nat_cmp) tubes.lines tube
     → AllStand (StandsByTubes tubes) sessions → AreFronts fronts sessions → p ≡ front_of tube fronts
-    → IsStrictlySortedBy line_cmp line.keys → slice_get (filter_map (waiter_at tube sessions) (places_from p line)) 0
+    → IsStrictlySortedBy line_cmp line.keys → slice_get (filter_map (waiter_at tube sessions) (line_from p line)) 0
     ≡ first_waiting (λ e. is_among tube e.1.watched) sessions
 first-in-line tube sessions tubes line fronts p value all were at sorted =
     let it : line ≡ tube_line tube tubes = sym (found-set line_cmp tube tubes.lines line (sym value)) in
     let all-sorted : IsStrictlySortedBy line_cmp (tube_line tube tubes).keys =
     subst (λ (l : BTreeSet LinePlace). IsStrictlySortedBy line_cmp l.keys) it sorted in
-    ap (λ (l : BTreeSet LinePlace). slice_get (filter_map (waiter_at tube sessions) (places_from p l)) 0) it ∙
-    first-stands (wants_from tube) sessions (places_from p (tube_line tube tubes)) all.rising
+    ap (λ (l : BTreeSet LinePlace). slice_get (filter_map (waiter_at tube sessions) (line_from p l)) 0) it ∙
+    first-stands (wants_from tube) sessions (line_from p (tube_line tube tubes)) all.rising
     (seen-from tube sessions tubes p all (subst (IsFront tube sessions) (sym at) (were tube)))
     (IsStrictlySortedBy-filter line_cmp (range_contains line_cmp (Included p) Unbounded) (tube_line tube tubes).keys all-sorted)
 

@@ -34,8 +34,8 @@ abbrev pub places_by : ℕ → BTreeSet LinePlace → List LinePlace
 places_by second line = keys_between line_cmp Unbounded (Included (place second 4294967295)) line
 
 -- the places in the line from this one on
-abbrev pub places_from : LinePlace → BTreeSet LinePlace → List LinePlace
-places_from p line = keys_between line_cmp (Included p) Unbounded line
+abbrev pub line_from : LinePlace → BTreeSet LinePlace → List LinePlace
+line_from p line = keys_between line_cmp (Included p) Unbounded line
 
 -- the place of a wait among those that end
 abbrev pub time_out_place : ℕ → Option Wait → Option LinePlace

@@ -3,7 +3,7 @@ ghost use Rattle.std.specs.BTreeSet.{IsOrdered};
 ghost use Rattle.job_store.specs.LookUps.{is_among};
 ghost use Rattle.session_store.specs.Sessions.{first_waiting};
 ghost use Rattle.session_store.specs.declared.place.LinePlace.{LinePlace};
-ghost use Rattle.session_store.specs.Lines.{AllStand, StillStand, HasAll, IsIn, StandsByTubes, tube_line, line_cmp, rank_place, places_from, waiter_at};
+ghost use Rattle.session_store.specs.Lines.{AllStand, StillStand, HasAll, IsIn, StandsByTubes, tube_line, line_cmp, rank_place, line_from, waiter_at};
 ghost use Rattle.session_store.specs.Fronts.{AreFronts};
 
 use crate::fronts::Fronts;
@@ -47,7 +47,8 @@ fn first_standing<'a>(
     tube: &Name,
 ) -> Option<(u32, &'a SessionState)>
     ensures first { option_map (λ e. (e.0, e.1.now)) result
-        ≡ slice_get (filter_map (waiter_at tube.now sessions.now.entries) (places_from front line.now)) 0 }
+        ≡ slice_get (filter_map (waiter_at tube.now sessions.now.entries)
+        (line_from front line.now)) 0 }
     ensures ordered { IsOrdered line_cmp line.now }
 {
     for place in line.range(front..) {
