@@ -6,3 +6,5 @@ pub mod Served
 pub mod Serving
 pub mod Lines
 pub mod Starts
+pub mod Keeping
+pub mod Openings

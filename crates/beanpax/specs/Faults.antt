@@ -12,6 +12,8 @@ use Rattle.log_file.specs.declared.faults.OpenFault.{OpenFault}
 use Rattle.log_file.specs.declared.faults.OpenFault.TheVariants as opening
 use Rattle.log_file.specs.declared.faults.ReadFault.{ReadFault}
 use Rattle.log_file.specs.declared.faults.ReadFault.TheVariants as reading
+use Rattle.journal.specs.declared.fault.JournalFault.{JournalFault}
+use Rattle.journal.specs.declared.fault.JournalFault.TheVariants as journal
 use Rattle.session.specs.declared.faults.SessionFault.{SessionFault}
 use Rattle.session.specs.declared.faults.SessionFault.TheVariants as of
 use Rattle.event_loops.specs.declared.fault.ServeFault.{ServeFault}
@@ -32,16 +34,9 @@ of_session of.ServiceStopped = ServiceStopped
 abbrev pub of_server : ServeFault → ProgramFault
 of_server server.OutOfMemory = OutOfMemory
 of_server server.BadNumber = BadNumber
-of_server server.ListenFailed = ListenFailed
+of_server (server.ListenFailed e) = ListenFailed
 of_server server.ThreadFailed = ThreadFailed
-of_server server.WriteFailed = ListenFailed
-of_server server.SyncFailed = ListenFailed
-
--- and of one that has a log
-abbrev pub of_logged : ServeFault → ProgramFault
-of_logged server.WriteFailed = WriteFailed
-of_logged server.SyncFailed = FileFailed
-of_logged fault = of_server fault
+of_server (server.LogFailed why) = ListenFailed
 
 -- a file could not be read or written: for want of memory, or not
 pub record IsOfFile (kind : ErrorKind) (fault : ProgramFault) : Type 0 where
@@ -61,16 +56,29 @@ IsOfUnread (reading.ReadFailed e) fault = IsOfFile (error_kind e) fault
 IsOfUnread reading.TooLong fault = fault ≡ FileFailed
 IsOfUnread (reading.NoLog found) fault = fault ≡ of_log found
 
--- why the head of a new log isn't kept
+-- why what was written isn't kept
 abbrev pub of_keeping : KeepFault → ProgramFault
 of_keeping (keeping.WriteFailed e) = WriteFailed
 of_keeping (keeping.SyncFailed e) = FileFailed
+of_keeping keeping.Changed = FileFailed
 of_keeping keeping.HasFailed = FileFailed
+
+-- why a log's commands aren't kept
+abbrev pub of_journal : JournalFault → ProgramFault
+of_journal journal.OutOfMemory = OutOfMemory
+of_journal journal.TooLong = FileFailed
+of_journal (journal.Unkept why) = of_keeping why
+
+-- the fault of a server that has a log
+abbrev pub of_logged : ServeFault → ProgramFault
+of_logged (server.LogFailed why) = of_journal why
+of_logged fault = of_server fault
 
 -- why a file isn't opened as a log
 abbrev pub IsOfOpening : OpenFault → ProgramFault → Type 0
 IsOfOpening opening.OutOfMemory fault = fault ≡ OutOfMemory
 IsOfOpening opening.Locked fault = fault ≡ FileFailed
+IsOfOpening opening.NotAFile fault = fault ≡ FileFailed
 IsOfOpening (opening.FileFailed e) fault = IsOfFile (error_kind e) fault
 IsOfOpening (opening.Unread unread) fault = IsOfUnread unread fault
 IsOfOpening (opening.Unkept unkept) fault = fault ≡ of_keeping unkept
@@ -118,3 +126,7 @@ text_of (LogDamaged line) = codes "log damaged: line " ++ decimal line
 -- the line by which a fault is told
 unfoldable pub fault_line_text : ProgramFault → List ℕ
 fault_line_text fault = codes "beanpax: " ++ decimal (number_of_fault fault) ++ codes " " ++ text_of fault ++ codes "\n"
+
+-- the line by which it is told what failed, and why
+unfoldable pub cause_line : List ℕ → List ℕ → List ℕ
+cause_line name reason = codes "beanpax: " ++ (name ++ (codes ": " ++ (reason ++ codes "\n")))

@@ -7,3 +7,4 @@ pub mod Servers
 pub mod Program
 pub mod Starts
 pub mod Restorings
+pub mod Openings

@@ -1,5 +1,5 @@
 -- What the program tells of its end.
-use Rattle.std.specs.Prelude.{◌≡◌, ◌≢◌, ◌⊎◌, ◌<◌, ℕ, Bool, true, false, Option, None, List, [], codes}
+use Rattle.std.specs.Prelude.{◌≡◌, ◌≢◌, ◌⊎◌, ◌<◌, ℕ, Bool, true, false, Option, None, List, [], Result, IfErr, OnOk, codes}
 use Rattle.std.specs.Bool.{⊤}
 use Rattle.std.specs.Io.KnownBytes.{Appends, IsAtEnd}
 use Rattle.session.specs.Streams.{AppendsBeginning}
@@ -13,9 +13,11 @@ use Rattle.beanpax.specs.declared.faults.ProgramFault.TheVariants.{OutOfMemory, 
 use Rattle.beanpax.specs.declared.faults.ProgramFault.TheVariants.{ServiceStopped, ListenFailed, FileFailed}
 use Rattle.beanpax.specs.declared.faults.ProgramFault.TheVariants.{ThreadFailed, LogDamaged}
 use Rattle.options.specs.declared.words.ServerOptions.{ServerOptions}
+use Rattle.beanpax.specs.Faults.{cause_line}
 use Rattle.beanpax.specs.Servers.{cut_line, listening_line}
 use Rattle.inspection.specs.Verdicts.{IsVerdict, is_legal, verdict_line}
-use Rattle.options.specs.Words.{AskFor, AskForDump, AskForHelp, AskForLog, AskForRun, AskForServer}
+use Rattle.options.specs.declared.words.TheConstants.{VERSION}
+use Rattle.options.specs.Words.{AskFor, AskForDump, AskForHelp, AskForLog, AskForRun, AskForServer, AskForVersion}
 use Rattle.inspection.specs.declared.verdict.Verdict.{Verdict}
 
 -- A failure is told only of a stream that has failed, or of a log, that the service stopped only where the words ask for a
@@ -85,11 +87,12 @@ IsVerdictLine line = (verdict : Verdict) × ((text : List ℕ) × IsVerdict text
 abbrev pub BeginsVerdict : Option (List ℕ) → Option (List ℕ) → Type 0
 BeginsVerdict held holds = (line : List ℕ) × ((line ≡ []) ⊎ IsVerdictLine line) × AppendsBeginning held holds line
 
--- What these words let the program tell on its output, where they ask for no run: nothing, the help, the line by which a
--- server tells its port, or a verdict.
+-- What these words let the program tell on its output, where they ask for no run: nothing, the help, the version, the line by
+-- which a server tells its port, or a verdict.
 abbrev pub MayTell : List (List ℕ) → List ℕ → Type 0
 MayTell words text =
     (text ≡ []) ⊎ AskForHelp words ⊎
+    (AskForVersion words × (text ≡ VERSION.now)) ⊎
     ((options : ServerOptions) × AskForServer words options × (text ≡ listening_line options.host options.port)) ⊎
     (AskFor (codes "inspect") words × IsVerdictLine text)
 
@@ -126,3 +129,29 @@ WritesMore writes old new = (new ≡ old) ⊎ ((text : List ℕ) × Appends (wri
 pub record TellsOfLog {E : Type 0} (has_log : Type 0) (writes : ByteOut E) (old new : E) : Type 0 where
   pub more : WritesMore writes old new
   pub silent : (has_log → ⊥) → new ≡ old
+
+-- the name of what failed was told, and a reason, in a line of their own
+abbrev pub TellsCause : {E : Type 0} → ByteOut E → E → E → List ℕ → Type 0
+TellsCause writes old new name =
+    (reason : List ℕ) × WritesText (writes.contents old) (writes.contents new) (writes.has_failed new) (cause_line name reason)
+
+-- so was some name
+abbrev pub TellsSomeCause : {E : Type 0} → ByteOut E → E → E → Type 0
+TellsSomeCause writes old new = (name : List ℕ) × TellsCause writes old new name
+
+-- of an address or a file that failed the cause was told; of a write that failed, where it was one to a log; and of nothing else
+abbrev pub TellsCauseOf : {E : Type 0} → ByteOut E → ProgramFault → E → E → Type 0
+TellsCauseOf writes ListenFailed old new = TellsSomeCause writes old new
+TellsCauseOf writes FileFailed old new = TellsSomeCause writes old new
+TellsCauseOf writes (LogDamaged line) old new = TellsSomeCause writes old new
+TellsCauseOf writes WriteFailed old new = (new ≡ old) ⊎ TellsSomeCause writes old new
+TellsCauseOf writes fault old new = new ≡ old
+
+-- where all went well nothing was told, and else the cause
+pub record TellsCauseIn {E X : Type 0} (writes : ByteOut E) (result : Result X ProgramFault) (old new : E) : Type 0 where
+  pub silent : OnOk result (new ≡ old)
+  pub cause : IfErr result (λ fault. TellsCauseOf writes fault old new)
+
+-- it was told of a log, where there is one, and behind that the cause, where something failed
+abbrev pub TellsOfServing : {E X : Type 0} → Type 0 → ByteOut E → Result X ProgramFault → E → E → Type 0
+TellsOfServing {E} has_log writes result old new = (middle : E) × TellsOfLog has_log writes old middle × TellsCauseIn writes result middle new

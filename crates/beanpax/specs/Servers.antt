@@ -10,10 +10,14 @@ use Rattle.std.specs.Net.Text.{ipv4_text, ipv6_text}
 use Rattle.session.specs.Streams.{AppendsBeginning}
 use Rattle.beanpax.specs.declared.faults.ProgramFault.{ProgramFault}
 
--- the line by which it tells that it listens: an IPv6 address stands in brackets before a port (RFC 3986, 3.2.2)
+-- an address with a port: one of IPv6 stands in brackets before the port (RFC 3986, 3.2.2)
+unfoldable pub address_text : IpAddr → ℕ → List ℕ
+address_text (V4 ip) port = ipv4_text (ipv4_octets ip) ++ codes ":" ++ decimal port
+address_text (V6 ip) port = codes "[" ++ ipv6_text (ipv6_segments ip) ++ codes "]:" ++ decimal port
+
+-- the line by which it tells that it listens
 unfoldable pub listening_line : IpAddr → ℕ → List ℕ
-listening_line (V4 ip) port = codes "listening on " ++ ipv4_text (ipv4_octets ip) ++ codes ":" ++ decimal port ++ codes "\n"
-listening_line (V6 ip) port = codes "listening on [" ++ ipv6_text (ipv6_segments ip) ++ codes "]:" ++ decimal port ++ codes "\n"
+listening_line host port = codes "listening on " ++ address_text host port ++ codes "\n"
 
 -- the line by which it tells how many bytes were cut off behind its log
 unfoldable pub cut_line : ℕ → List ℕ

@@ -6,12 +6,12 @@ ghost use Rattle.session.specs.Streams.{AppendsBeginning};
 ghost use Rattle.options.specs.declared.words.ServerOptions.{ServerOptions};
 ghost use Rattle.beanpax.specs.Faults.{fault_line_text};
 ghost use Rattle.beanpax.specs.Program.{EndsWith, HasListened, IsCaused, AnswersToSomeEnd, IsRunFault, TellsSome, WritesSome, WritesText};
-ghost use Rattle.beanpax.specs.Program.{BeginsToTell, IsWholeRun, WritesMore, TellsOfLog};
+ghost use Rattle.beanpax.specs.Program.{BeginsToTell, IsWholeRun, TellsCauseOf, TellsOfLog, WritesMore};
 ghost use Rattle.beanpax.specs.Runs.{TellsBeginning};
 ghost use Rattle.inspection.specs.declared.verdict.Verdict.{Verdict};
 ghost use Rattle.inspection.specs.Verdicts.{is_legal};
 ghost use Rattle.options.specs.Words.{AreWrong, HaveBadHost, HaveBadWeights};
-ghost use Rattle.options.specs.Words.{AskForHelp, AskForInspection, AskForLog, AskForRun, AskForServer, profile_asked};
+ghost use Rattle.options.specs.Words.{AskForHelp, AskForInspection, AskForLog, AskForRun, AskForServer, AskForVersion, profile_asked};
 
 use crate::faults::ProgramFault;
 use crate::host::Host;
@@ -21,7 +21,7 @@ use crate::server::serve_tcp;
 use crate::telling::{tell_error, tell_fault};
 use bean_codec::front_item;
 use inspection::Verdict;
-use options::{Action, RunOptions, parse_words};
+use options::{Action, RunOptions, VERSION, parse_words};
 use session::{ByteIn, ByteOut, write_all};
 use std::alloc::{AllocError, Global};
 
@@ -45,9 +45,10 @@ pub const DUMP_REFUSED: u8 = 3;
 
 /// Does what the program does with these words, of which the first is its name. Answers the status.
 ///
-/// The help goes to the output, and what is wrong with the words to the errors. A server returns
+/// The help and the version go to the output, and what is wrong with the words to the errors. A server returns
 /// when it has served as many connections as were asked for; what it does for them is in the
-/// contract of `serve_clients`. What is cut off behind a log is told on the errors, and how far a start from it is.
+/// contract of `serve_clients`. What is cut off behind a log is told on the errors, and how far a start from it is; and
+/// before a fault, which address or file failed, and why.
 pub fn program<H: Host, R: ByteIn, W: ByteOut, E: ByteOut>(
     rt: &H,
     words: &[String],
@@ -62,12 +63,14 @@ pub fn program<H: Host, R: ByteIn, W: ByteOut, E: ByteOut>(
         (W.contents output.old) (W.contents output.new))
         ⊎ ((AskForHelp (map string_bytes words.now)
         × TellsSome (W.contents output.old) (W.contents output.new) × (input.new ≡ input.old))
+        ⊎ ((AskForVersion (map string_bytes words.now)
+        × Appends (W.contents output.old) (W.contents output.new) VERSION.now × (input.new ≡ input.old))
         ⊎ (((options : ServerOptions) × AskForServer (map string_bytes words.now) options
         × HasListened options (W.contents output.old) (W.contents output.new)
         × (input.new ≡ input.old))
         ⊎ ((file : List ℕ) × AskForInspection (map string_bytes words.now) file
         × EndsWith true (W.contents output.old) (W.contents output.new)
-        × (input.new ≡ input.old)))) }
+        × (input.new ≡ input.old))))) }
     ensures refused { result ≡ DUMP_REFUSED
         → (file : List ℕ) × AskForInspection (map string_bytes words.now) file
         × EndsWith false (W.contents output.old) (W.contents output.new)
@@ -75,10 +78,11 @@ pub fn program<H: Host, R: ByteIn, W: ByteOut, E: ByteOut>(
     ensures silent { result ≡ DONE → (AskForLog (map string_bytes words.now) → ⊥)
         → errors.new ≡ errors.old }
     ensures more { result ≡ DONE → WritesMore E.ByteOut errors.old errors.new }
-    ensures fault { result ≡ FAULT → (fault : ProgramFault) × (before : E)
+    ensures fault { result ≡ FAULT → (fault : ProgramFault) × (after_log before : E)
         × IsCaused (map string_bytes words.now) fault
         (R.has_failed input.new) (W.has_failed output.new)
-        × TellsOfLog (AskForLog (map string_bytes words.now)) E.ByteOut errors.old before
+        × TellsOfLog (AskForLog (map string_bytes words.now)) E.ByteOut errors.old after_log
+        × TellsCauseOf E.ByteOut fault after_log before
         × WritesText (E.contents before) (E.contents errors.new) (E.has_failed errors.new)
         (fault_line_text fault) }
     ensures wrong { result ≡ WRONG_WORDS
@@ -112,7 +116,7 @@ pub fn program<H: Host, R: ByteIn, W: ByteOut, E: ByteOut>(
             status_after(ended, errors)
         }
         Ok(Action::Inspect { file }) => {
-            let found = inspect_file(rt, file, output);
+            let found = inspect_file(rt, file, output, errors);
             status_of(found, errors)
         }
         Ok(Action::BadWeights) => {
@@ -124,7 +128,11 @@ pub fn program<H: Host, R: ByteIn, W: ByteOut, E: ByteOut>(
             WRONG_WORDS
         }
         Ok(Action::Help(text)) => {
-            let shown = show_help(text.as_str(), output);
+            let shown = show_text(text.as_str(), output);
+            status_after(shown, errors)
+        }
+        Ok(Action::Version) => {
+            let shown = show_text(VERSION, output);
             status_after(shown, errors)
         }
         Ok(Action::Wrong(text)) => {
@@ -158,8 +166,8 @@ fn run<R: ByteIn, W: ByteOut>(
     Ok(())
 }
 
-// Writes the help.
-fn show_help<W: ByteOut>(text: &str, output: &mut W) -> Result<(), ProgramFault>
+// Writes the help, or the version.
+fn show_text<W: ByteOut>(text: &str, output: &mut W) -> Result<(), ProgramFault>
     ensures ok { OnOk result (Appends (W.contents output.old) (W.contents output.new) text.now) }
     ensures begins { AppendsBeginning (W.contents output.old) (W.contents output.new) text.now }
     ensures fault { IfErr result (λ fault. fault ≡ WriteFailed) }

@@ -2,8 +2,9 @@ ghost use Rattle.std.specs.Prelude.{◌≡◌};
 ghost use Rattle.std_io.specs.IoError.{error_kind};
 ghost use Rattle.beanpax.specs.declared.faults.ProgramFault.TheVariants.{OutOfMemory};
 ghost use Rattle.beanpax.specs.Faults.{IsOfFile, IsOfLog, IsOfOpening, IsOfUnread};
-ghost use Rattle.beanpax.specs.Faults.{number_of_fault, of_keeping, of_log, of_logged, of_server, of_session};
+ghost use Rattle.beanpax.specs.Faults.{number_of_fault, of_journal, of_keeping, of_log, of_server, of_session};
 
+use crate::start_fault::StartFault;
 use command_log::LogFault;
 use journal::JournalFault;
 use log_file::{KeepFault, OpenFault, ReadFault};
@@ -62,10 +63,10 @@ impl From<ServeFault> for ProgramFault {
         match fault {
             ServeFault::OutOfMemory => ProgramFault::OutOfMemory,
             ServeFault::BadNumber => ProgramFault::BadNumber,
-            ServeFault::ListenFailed => ProgramFault::ListenFailed,
+            ServeFault::ListenFailed(_) => ProgramFault::ListenFailed,
             ServeFault::ThreadFailed => ProgramFault::ThreadFailed,
             // none of a server without a log
-            ServeFault::WriteFailed | ServeFault::SyncFailed => ProgramFault::ListenFailed,
+            ServeFault::LogFailed(_) => ProgramFault::ListenFailed,
         }
     }
 }
@@ -84,7 +85,7 @@ impl From<OpenFault> for ProgramFault {
     fn from(fault: OpenFault) -> ProgramFault {
         match fault {
             OpenFault::OutOfMemory => ProgramFault::OutOfMemory,
-            OpenFault::Locked => ProgramFault::FileFailed,
+            OpenFault::Locked | OpenFault::NotAFile => ProgramFault::FileFailed,
             OpenFault::FileFailed(error) => file_fault(&error),
             OpenFault::Unread(unread) => fault_of_reading(unread),
             OpenFault::Unkept(unkept) => fault_of_keeping(unkept),
@@ -93,7 +94,7 @@ impl From<OpenFault> for ProgramFault {
 }
 
 impl From<JournalFault> for ProgramFault {
-    ghost from_gives = { λ _ p. IsOfLog p };
+    ghost from_gives = { λ f p. p ≡ of_journal f };
 
     fn from(fault: JournalFault) -> ProgramFault {
         match fault {
@@ -104,25 +105,16 @@ impl From<JournalFault> for ProgramFault {
     }
 }
 
-impl From<RecoverFault> for ProgramFault {
+impl From<StartFault> for ProgramFault {
     ghost from_gives = { λ _ p. IsOfLog p };
 
-    fn from(fault: RecoverFault) -> ProgramFault {
+    fn from(fault: StartFault) -> ProgramFault {
         match fault {
-            RecoverFault::OutOfMemory => ProgramFault::OutOfMemory,
-            RecoverFault::NoOrder => ProgramFault::LogDamaged(1),
+            StartFault::Unopened(fault) => ProgramFault::from(fault),
+            StartFault::Unobeyed(RecoverFault::OutOfMemory) => ProgramFault::OutOfMemory,
+            StartFault::Unobeyed(RecoverFault::NoOrder) => ProgramFault::LogDamaged(1),
+            StartFault::Unkept(fault) => ProgramFault::from(fault),
         }
-    }
-}
-
-/// Why a server with a log ended.
-pub(crate) fn fault_of_logged(fault: ServeFault) -> ProgramFault
-    ensures { result ≡ of_logged fault }
-{
-    match fault {
-        ServeFault::WriteFailed => ProgramFault::WriteFailed,
-        ServeFault::SyncFailed => ProgramFault::FileFailed,
-        other => ProgramFault::from(other),
     }
 }
 
@@ -148,13 +140,15 @@ fn fault_of_log(fault: LogFault) -> ProgramFault
     }
 }
 
-// Why the head of a new log isn't kept.
+// Why what was written isn't kept.
 fn fault_of_keeping(fault: KeepFault) -> ProgramFault
     ensures { result ≡ of_keeping fault }
 {
     match fault {
         KeepFault::WriteFailed(_) => ProgramFault::WriteFailed,
-        KeepFault::SyncFailed(_) | KeepFault::HasFailed => ProgramFault::FileFailed,
+        KeepFault::SyncFailed(_) | KeepFault::Changed | KeepFault::HasFailed => {
+            ProgramFault::FileFailed
+        }
     }
 }
 

@@ -1,13 +1,15 @@
 use std::fs::File;
+use std::io::Eprint;
 use std::net::{Net, TcpListener, TcpStream};
 use std::rt::{Clock, Files};
 use std::sync::Wait;
 use std::thread::Threads;
 
 /// What the program takes of the machine beside its words and streams: sockets, a clock, files,
-/// threads, and leave to wait.
+/// threads, and leave to wait; and standard error, for what a server has to tell while it serves.
 pub trait Host: Net<Listener = TcpListener, Stream = TcpStream>
     + Clock
+    + Eprint
     + Files<File = File>
     + Threads
     + Wait
@@ -17,6 +19,7 @@ pub trait Host: Net<Listener = TcpListener, Stream = TcpStream>
 impl<
     R: Net<Listener = TcpListener, Stream = TcpStream>
         + Clock
+        + Eprint
         + Files<File = File>
         + Threads
         + Wait

@@ -2,27 +2,33 @@ ghost use Rattle.std.specs.Prelude.{◌≡◌, true, Err, IfOk, IfErr};
 ghost use Rattle.std.specs.Io.KnownBytes.{Appends};
 ghost use Rattle.beanpax.specs.declared.faults.ProgramFault.TheVariants.{WriteFailed};
 ghost use Rattle.beanpax.specs.Faults.{IsOfOutput};
-ghost use Rattle.beanpax.specs.Program.{BeginsVerdict, HasInspected, IsInspectionFault};
+ghost use Rattle.beanpax.specs.Program.{BeginsVerdict, HasInspected, IsInspectionFault, TellsCauseIn};
 ghost use Rattle.inspection.specs.Verdicts.{IsVerdict, verdict_line};
 
-use crate::faults::{ProgramFault, file_fault};
+use crate::faults::ProgramFault;
 use crate::host::Host;
+use crate::telling::tell_file_fault;
 use inspection::{Verdict, inspect_text};
 use session::{ByteOut, write_all};
 use std::alloc::Global;
 use std::fs;
 
-/// Tells on the output what is found of the file's text.
-pub(crate) fn inspect_file<R: Host, W: ByteOut>(
+/// Tells on the output what is found of the file's text; or on the errors, why the file can't be read.
+pub(crate) fn inspect_file<R: Host, W: ByteOut, E: ByteOut>(
     rt: &R,
     file: &str,
     output: &mut W,
+    errors: &mut E,
 ) -> Result<Verdict, ProgramFault>
     ensures ok { IfOk result (HasInspected (W.contents output.old) (W.contents output.new)) }
     ensures err { IfErr result (IsInspectionFault (W.has_failed output.new)) }
     ensures begins { BeginsVerdict (W.contents output.old) (W.contents output.new) }
+    ensures cause { TellsCauseIn E.ByteOut result errors.old errors.new }
 {
-    let text = fs::read(rt, file).map_err(|e| file_fault(&e))?;
+    let text = match fs::read(rt, file) {
+        Ok(text) => text,
+        Err(e) => return Err(tell_file_fault(rt.alloc(), file, &e, errors)),
+    };
     tell_verdict(rt.alloc(), text.as_slice(), output)
 }
 

@@ -15,6 +15,7 @@ mod run;
 mod seconds;
 mod server;
 mod simulation;
+mod start_fault;
 mod starting;
 mod telling;
 mod warning;

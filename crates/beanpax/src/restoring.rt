@@ -1,13 +1,13 @@
-ghost use Rattle.std.specs.Prelude.{◌≡◌, ◌++◌, false, IfOk, IfErr};
+ghost use Rattle.std.specs.Prelude.{◌≡◌, ◌++◌, false, IfOk};
 ghost use Rattle.hall.specs.Halls.{has_unplaced};
 ghost use Rattle.recorder.specs.Records.{commands_from};
+ghost use Rattle.recovery.specs.Clocks.{last_second_in};
 ghost use Rattle.recovery.specs.Opened.{EndsAll};
-ghost use Rattle.beanpax.specs.Faults.{IsOfLog};
 ghost use Rattle.beanpax.specs.Program.{WritesMore};
 ghost use Rattle.beanpax.specs.Restorings.{IsRestored};
 
-use crate::faults::ProgramFault;
 use crate::host::Host;
+use crate::start_fault::StartFault;
 use crate::starting::{has_passed, tell_obeyed};
 use ballot::Members;
 use bean_queue::Queue;
@@ -32,9 +32,8 @@ pub(crate) fn restore_from<R: Host, E: ByteOut, W: Durable + Drop>(
     members: Members,
     opened: OpenedLog<W>,
     errors: &mut E,
-) -> Result<Restored<W>, ProgramFault>
+) -> Result<Restored<W>, StartFault>
     ensures restored { IfOk result (IsRestored W.contents members opened) }
-    ensures fault { IfErr result IsOfLog }
     ensures more { WritesMore E.ByteOut errors.old errors.new }
 {
     let OpenedLog { log, commands, .. } = opened;
@@ -44,8 +43,10 @@ pub(crate) fn restore_from<R: Host, E: ByteOut, W: Durable + Drop>(
         tickets,
         closes,
     } = recovered;
+    // It does nothing when it runs: the proof reads there that they are fewer than 2^64.
+    let _count = hall.placed_count();
     let mut journal = Journal::new(rt.alloc(), log, commands.len() as u64);
-    journal.put(closes, hall.placed_count());
+    journal.put(closes);
     journal.keep()?;
     let kept = KeptHall { hall, tickets };
     Ok(Restored { kept, journal })
@@ -58,13 +59,13 @@ fn obey_keeping<R: Host, E: ByteOut, O: Object>(
     members: Members,
     commands: &[Command<O::Op>],
     errors: &mut E,
-) -> Result<RecoveredKeeping<O>, ProgramFault>
+) -> Result<RecoveredKeeping<O>, StartFault>
     ensures members { IfOk result (λ r. r.hall.nodes.network.members ≡ members) }
     ensures placed { IfOk result (λ r.
         commands_from 0 r.hall.nodes.past ≡ commands.now ++ r.closes.items) }
     ensures ends { IfOk result (λ r. EndsAll commands.now r.closes.items) }
     ensures settled { IfOk result (λ r. has_unplaced r.hall ≡ false) }
-    ensures fault { IfErr result IsOfLog }
+    ensures second { IfOk result (λ r. r.hall.second ≡ last_second_in commands.now) }
     ensures more { WritesMore E.ByteOut errors.old errors.new }
 {
     let mut recovery = KeepingRecovery::begin(rt.alloc(), members)?;

@@ -1,12 +1,13 @@
-ghost use Rattle.std.specs.Prelude.{◌≡◌, ◌++◌, ◌≤◌, ℕ, List, [], length, take, IfOk, IfErr, IfSome};
+ghost use Rattle.std.specs.Prelude.{◌≡◌, ◌++◌, ◌≤◌, ℕ, List, [], length, take, IfOk, IfSome};
+ghost use Rattle.forgetting_hall.specs.Handing.{second_of};
 ghost use Rattle.forgetting_hall.specs.Telling.{HasTold};
+ghost use Rattle.recovery.specs.Clocks.{last_second_in};
 ghost use Rattle.recovery.specs.Opened.{EndsAll};
-ghost use Rattle.beanpax.specs.Faults.{IsOfLog};
 ghost use Rattle.beanpax.specs.Program.{WritesMore};
 ghost use Rattle.beanpax.specs.Starts.{IsStarted};
 
-use crate::faults::ProgramFault;
 use crate::host::Host;
+use crate::start_fault::StartFault;
 use crate::telling::tell_number;
 use ballot::Members;
 use bean_queue::Queue;
@@ -35,15 +36,16 @@ pub(crate) fn start_from<R: Host, E: ByteOut, W: Durable + Drop>(
     members: Members,
     opened: OpenedLog<W>,
     errors: &mut E,
-) -> Result<Started<W>, ProgramFault>
+) -> Result<Started<W>, StartFault>
     ensures started { IfOk result (IsStarted ⟦<Queue as Object>⟧.rules W.contents members opened) }
-    ensures fault { IfErr result IsOfLog }
     ensures more { WritesMore E.ByteOut errors.old errors.new }
 {
     let OpenedLog { log, commands, .. } = opened;
     let Recovered { hall, closes } = obey(rt, members, &commands, errors)?;
+    // It does nothing when it runs: the proof reads there that they are fewer than 2^64.
+    let _count = hall.placed_count();
     let mut journal = Journal::new(rt.alloc(), log, commands.len() as u64);
-    journal.put(closes, hall.placed_count());
+    journal.put(closes);
     journal.keep()?;
     Ok(Started { hall, journal })
 }
@@ -54,13 +56,13 @@ fn obey<R: Host, E: ByteOut, O: Object>(
     members: Members,
     commands: &[Command<O::Op>],
     errors: &mut E,
-) -> Result<Recovered<O>, ProgramFault>
+) -> Result<Recovered<O>, StartFault>
     ensures told { IfOk result (λ r. HasTold O.rules members r.hall (commands.now ++ r.closes.items)) }
     ensures counted { IfOk result (λ r. r.hall.summary.placed ≡ length (commands.now ++ r.closes.items)) }
     ensures settled { IfOk result (λ r. r.hall.summary.submitted ≡ r.hall.summary.placed) }
     ensures ends { IfOk result (λ r. EndsAll commands.now r.closes.items) }
     ensures gathered { IfOk result (λ r. r.hall.gathering.commands ≡ []) }
-    ensures fault { IfErr result IsOfLog }
+    ensures second { IfOk result (λ r. second_of r.hall ≡ last_second_in commands.now) }
     ensures more { WritesMore E.ByteOut errors.old errors.new }
 {
     let mut recovery = Recovery::begin(rt.alloc(), members, commands)?;

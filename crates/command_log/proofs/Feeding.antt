@@ -1,6 +1,6 @@
 -- A reader that reads on.
 use Rattle.std.proofs.Common.{◌≡◌, ℕ, suc, ◌-◌, ◌<◌, ◌^◌, List, [], ◌∷◌, ◌++◌, length, take, refl, sym, ap, subst, ◌∙◌, arith}
-use Rattle.std.proofs.Common.{Result, Ok, Err, append-nil, append_assoc, length-append}
+use Rattle.std.proofs.Common.{Bool, true, IsTrue, ◌↔◌, Result, Ok, Err, append-nil, append_assoc, length-append}
 use Rattle.std.specs.Prelude.{IfOk}
 use Rattle.object.specs.declared.command.Command.{Command}
 use Rattle.bean_words.specs.declared.op.Op.{Op}
@@ -12,15 +12,22 @@ use Rattle.command_log.specs.declared.stage.Stage.{Stage}
 use Rattle.command_log.specs.declared.stage.Stage.TheVariants.{Head}
 use Rattle.command_log.specs.Lines.{IsLogLine}
 use Rattle.command_log.specs.Progress.{HasRead, ReadsOn, StandsAfter, StepsOn, beginning_kept}
+use Rattle.command_log.specs.Reading.{EndsInHead}
+use Rattle.command_log.proofs.Begun.{begun_kept, kept_begun, nothing_begins}
 use Rattle.command_log.proofs.Kept.{take_more}
 
-pub has_read_nothing : (reader : LogReader) → reader.line.items ≡ [] → reader.stage ≡ Head → HasRead reader [] []
-has_read_nothing reader empty head = record {
+-- an empty text begins a head
+empty_begins : (reader : LogReader) → reader.begun ≡ true → IsTrue reader.begun ↔ EndsInHead []
+empty_begins reader begun = ((λ _. nothing_begins), (λ _. begun))
+
+pub has_read_nothing : (reader : LogReader) → reader.line.items ≡ [] → reader.begun ≡ true → reader.stage ≡ Head → HasRead reader [] []
+has_read_nothing reader empty begun head = record {
   lines = [];
   tail = [];
   cut = refl;
   no_feed = tt;
   keeps = empty;
+  begun = λ _. empty_begins reader begun;
   stands = subst (λ s. StandsAfter s [] []) (sym head) (refl, refl);
 }
 
@@ -40,21 +47,30 @@ longer_line tail line none is = record {
   is = ap (λ t. tail ++ t) is.is ∙ sym (append_assoc tail is.said (10 ∷ []));
 }
 
+-- whether a text begins a head can be told from what is kept of it
+begun_of : (shown text : List ℕ) (begun : Bool) → shown ≡ beginning_kept text → (IsTrue begun ↔ EndsInHead shown) → (IsTrue begun ↔ EndsInHead text)
+begun_of shown text begun same h = (
+  (λ is. kept_begun text (subst EndsInHead same (h.0 is))),
+  (λ is. h.1 (subst EndsInHead (sym same) (begun_kept text is))),
+)
+
 pub reads_part : (before after : LogReader) (commands : List (Command Op)) (part : List ℕ) → NoFeed part
-    → after.line.items ≡ with_part before.line.items part → after.stage ≡ before.stage → ReadsOn before commands part after commands
-reads_part before after commands part none keeps same text taken h fits = record {
+    → after.line.items ≡ with_part before.line.items part → after.stage ≡ before.stage
+    → (after.stage ≡ Head → (IsTrue after.begun ↔ EndsInHead after.line.items)) → ReadsOn before commands part after commands
+reads_part before after commands part none keeps same begun text taken h fits = record {
   lines = h.lines;
   tail = h.tail ++ part;
   cut = ap (λ t. t ++ part) h.cut ∙ append_assoc h.lines h.tail part;
   no_feed = feeds h.tail part h.no_feed none;
   keeps = keeps ∙ kept_more before.line.items h.tail part h.keeps;
+  begun = λ head. begun_of after.line.items (h.tail ++ part) after.begun (keeps ∙ kept_more before.line.items h.tail part h.keeps) (begun head);
   stands = subst (λ s. StandsAfter s h.lines (taken ++ commands)) (sym same) h.stands;
 }
 
 pub reads_line : (before after : LogReader) (old new : List (Command Op)) (line shown : List ℕ) (stage : Stage) → IsLogLine line
     → shown ≡ with_part before.line.items line → StepsOn before.stage old shown stage new
-    → after.line.items ≡ [] → after.stage ≡ stage → ReadsOn before old line after new
-reads_line before after old new line shown stage is keeps steps empty same text taken h fits =
+    → after.line.items ≡ [] → after.begun ≡ true → after.stage ≡ stage → ReadsOn before old line after new
+reads_line before after old new line shown stage is keeps steps empty begun same text taken h fits =
     let full = h.tail ++ line in
     let cut : text ++ line ≡ h.lines ++ full = ap (λ t. t ++ line) h.cut ∙ append_assoc h.lines h.tail line in
     let next = steps h.lines full taken (longer_line h.tail line h.no_feed is) (keeps ∙ kept_more before.line.items h.tail line h.keeps)
@@ -65,6 +81,7 @@ reads_line before after old new line shown stage is keeps steps empty same text 
       cut = cut ∙ sym (append-nil (h.lines ++ full));
       no_feed = tt;
       keeps = empty;
+      begun = λ _. empty_begins after begun;
       stands = subst (λ s. StandsAfter s (h.lines ++ full) (taken ++ new)) (sym same) next;
     }
 

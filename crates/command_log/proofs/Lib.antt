@@ -1,3 +1,5 @@
+pub mod Begun
+pub mod Chains
 pub mod Cuts
 pub mod Endings
 pub mod Feeding
@@ -9,3 +11,4 @@ pub mod Spelled
 pub mod Steps
 pub mod Sums
 pub mod Sizes
+pub mod WordCounts

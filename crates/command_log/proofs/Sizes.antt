@@ -1,5 +1,5 @@
--- A client's command is short enough for a line.
-use Rattle.std.proofs.Common.{◌≡◌, ℕ, suc, ◌+◌, ◌*◌, ◌^◌, ◌<◌, ◌≤◌, List, [], ◌∷◌, ◌++◌, length, codes, decimal, Some, None, arith, length-append}
+-- A client's command is short enough for a log.
+use Rattle.std.proofs.Common.{◌≡◌, ℕ, suc, ◌+◌, ◌^◌, ◌<◌, ◌≤◌, List, [], ◌∷◌, length, codes, decimal, Some, None, arith, length-append}
 use Rattle.std.proofs.lemmas.Fmt.{length-decimal-le}
 use Rattle.hex.specs.Hex.{lower_digits}
 use Rattle.hex.proofs.HexLemmas.{length-encode_with}
@@ -16,8 +16,7 @@ use Rattle.chronicle_text.specs.Acts.{act_words, op_words}
 use Rattle.chronicle_text.specs.Lines.{after_space, body_word, spaced}
 use Rattle.chronicle_text.specs.Values.{IsActValue, IsCommandValue, IsOpValue}
 use Rattle.command_log.specs.Lines.{HasClientBody}
-use Rattle.command_log.specs.Text.{command_words, line_of_command, sum_end}
-use Rattle.command_log.proofs.Sums.{sum_end_long}
+use Rattle.command_log.specs.Text.{command_words}
 
 ten : (n : ℕ) → n < 2 ^ 32 → length (decimal n) ≤ 20
 ten n h = length-decimal-le 20 n (omega arith) (omega arith) (omega arith)
@@ -106,7 +105,7 @@ act_short (Do op) h short = op_short op h short
 act_short Close h short = one (codes "close") (omega arith)
 act_short Tick h short = one (codes "tick") (omega arith)
 
-pub client_short : (c : Command Op) → IsCommandValue c → HasClientBody c.act → length (line_of_command c) ≤ 131200
+pub client_short : (c : Command Op) → IsCommandValue c → HasClientBody c.act → length (command_words c) ≤ 131190
 unfolding command_words
 client_short c h short = omega (
   arith,
@@ -115,6 +114,4 @@ client_short c h short = omega (
   act_short c.act h.1 short,
   one_more (decimal c.key.number) (act_words c.act),
   length-append (decimal c.key.session) (spaced (decimal c.key.number ∷ act_words c.act)),
-  length-append (command_words c) (sum_end (command_words c)),
-  sum_end_long (command_words c),
 )

@@ -1,6 +1,6 @@
 -- Heads and commands, by the lines that a dump has for them.
 use Rattle.std.proofs.Common.{◌≡◌, ℕ, ◌+◌, ◌*◌, ◌≤◌, true, List, [], ◌∷◌, ◌++◌, map, length, Option, Some, None, codes, decimal}
-use Rattle.std.proofs.Common.{refl, sym, ap, subst, ◌∙◌, arith, append-nil, append_assoc, length-append}
+use Rattle.std.proofs.Common.{refl, sym, ap, subst, ◌∙◌, arith, append_assoc, length-append}
 use Rattle.std.proofs.lemmas.Bool.{and_parts, leb-true}
 use Rattle.std.proofs.lemmas.Fmt.{length-decimal-le}
 use Rattle.std.proofs.lemmas.List.{append_cancel_left, append_cancel_right}
@@ -19,10 +19,15 @@ use Rattle.chronicle_text.proofs.spelling.Back.{hex_plain}
 use Rattle.chronicle_text.proofs.spelling.EntryLines.{feeds, one_front, plain_no_feed, said_no_feed, spaced_no_feed}
 use Rattle.chronicle_text.proofs.spelling.Heads.{weights_plain}
 use Rattle.chronicle_text.proofs.spelling.Words.{by_test}
+use Rattle.command_log.specs.declared.chain.Chain.{Chain}
 use Rattle.command_log.specs.declared.line.TheConstants.{MAX_LINE}
-use Rattle.command_log.specs.Lines.{Heads, IsLogLine, TellsCommand}
+use Rattle.command_log.specs.declared.version.LogVersion.{LogVersion}
+use Rattle.command_log.specs.declared.version.LogVersion.TheVariants.{One, Two}
+use Rattle.command_log.specs.Lines.{HeadsIn, IsChain, IsLogLine, IsLogged, TellsCommand}
 use Rattle.command_log.specs.Spelling.{told_command, told_head}
-use Rattle.command_log.specs.Text.{log_name, head_line, command_words, sum_word, sum_end, summed, line_of_command}
+use Rattle.command_log.specs.Text.{log_name, head_line, command_words, sum_word, sum_end, summed, chain_words, chained_words, line_of_command}
+use Rattle.command_log.proofs.Chains.{chain_no_feed, chain_short, one_chained}
+use Rattle.command_log.proofs.Sums.{one_summed, sum_end_long}
 
 -- ---- as lines of a dump
 
@@ -30,9 +35,9 @@ use Rattle.command_log.specs.Text.{log_name, head_line, command_words, sum_word,
 abbrev pub weight_words : List ℕ → List ℕ
 weight_words weights = spaced (map decimal weights) ++ codes "\n"
 
-head_is : (weights : List ℕ) → head_line weights ≡ log_name ++ weight_words weights
+pub head_is : (version : LogVersion) (weights : List ℕ) → head_line version weights ≡ log_name version ++ weight_words weights
 unfolding head_line line
-head_is weights = refl
+head_is version weights = append_assoc (log_name version) (spaced (map decimal weights)) (codes "\n")
 
 weights_are : (weights : List ℕ) → weights_line weights ≡ codes "weights" ++ weight_words weights
 unfolding weights_line line
@@ -52,13 +57,36 @@ one_command c d h k same =
     (command_is c ∙ ap (λ t. codes "S " ++ (t ++ codes "\n")) same ∙ sym (command_is d)) in
     cc
 
-pub one_head : (v w : List ℕ) → IsMembers v → IsMembers w → head_line v ≡ head_line w → v ≡ w
-one_head v w h k same =
-    let words : weight_words v ≡ weight_words w =
-    append_cancel_left log_name (weight_words v) (weight_words w) (sym (head_is v) ∙ same ∙ head_is w) in
+one_weights : (v w : List ℕ) → IsMembers v → IsMembers w → weight_words v ≡ weight_words w → v ≡ w
+one_weights v w h k words =
     let entries = same_entry (entry.Weights v) (entry.Weights w) h k
     (weights_are v ∙ ap (λ t. codes "weights" ++ t) words ∙ sym (weights_are w)) in
     cc
+
+abbrev first_byte : List ℕ → ℕ
+first_byte [] = 0
+first_byte (b ∷ text) = b
+
+-- the version is told by the last byte of the name
+two_names : (x y : List ℕ) → log_name One ++ x ≡ log_name Two ++ y → ⊥
+two_names x y same =
+    let last : 49 ≡ 50 = ap first_byte (append_cancel_left (codes "beanpax-log ") (49 ∷ x) (50 ∷ y) same) in
+    absurd (omega (arith, last))
+
+-- two heads in front of equal texts are of one version
+pub one_version : (a b : LogVersion) (x y : List ℕ) → log_name a ++ x ≡ log_name b ++ y → a ≡ b
+one_version One One x y same = refl
+one_version One Two x y same = absurd (two_names x y same)
+one_version Two One x y same = absurd (two_names y x (sym same))
+one_version Two Two x y same = refl
+
+pub one_head : (a b : LogVersion) (v w : List ℕ) → IsMembers v → IsMembers w → head_line a v ≡ head_line b w → (a ≡ b) × (v ≡ w)
+one_head a b v w h k same =
+    let text = sym (head_is a v) ∙ same ∙ head_is b w in
+    let version = one_version a b (weight_words v) (weight_words w) text in
+    let words = append_cancel_left (log_name b) (weight_words v) (weight_words w)
+    (ap (λ n. log_name n ++ weight_words v) (sym version) ∙ text) in
+    (version, one_weights v w h k words)
 
 -- ---- where they end
 
@@ -74,18 +102,44 @@ summed_is_line words h = record {
   is = sym (append_assoc words (after_space (sum_word words)) (codes "\n"));
 }
 
-pub command_is_line : (c : Command Op) → IsCommandValue c → IsLogLine (line_of_command c)
-command_is_line c h = summed_is_line (command_words c) (words_no_feed c h)
+pub command_is_line : (version : LogVersion) (chain : Chain) (c : Command Op) → IsChain version chain → IsCommandValue c
+    → IsLogLine (line_of_command chain c)
+command_is_line version chain c h k =
+    summed_is_line (chained_words chain c) (feeds (command_words c) (chain_words chain) (words_no_feed c k) (chain_no_feed version chain h))
 
-name_no_feed : NoFeed log_name
-name_no_feed = feeds (codes "beanpax-log") (codes " 1") (plain_no_feed (codes "beanpax-log") (by_test (codes "beanpax-log") refl))
+-- two lines of one version are one only where they are chained to one line, and have one command
+pub one_line : (version : LogVersion) (a b : Chain) (c d : Command Op) → IsChain version a → IsChain version b
+    → IsLogged c → IsLogged d → line_of_command a c ≡ line_of_command b d → (a ≡ b) × (c ≡ d)
+one_line version a b c d h k l m same =
+    let both = one_chained version (command_words c) (command_words d) a b h k
+    (one_summed (chained_words a c) (chained_words b d) same) in
+    (both.1, one_command c d l.value m.value both.0)
+
+pub line_long : (chain : Chain) (c : Command Op)
+    → length (line_of_command chain c) ≡ length (command_words c) + length (chain_words chain) + 10
+line_long chain c = omega (
+  arith,
+  length-append (chained_words chain c) (sum_end (chained_words chain c)),
+  length-append (command_words c) (chain_words chain),
+  sum_end_long (chained_words chain c),
+)
+
+pub line_short : (version : LogVersion) (chain : Chain) (c : Command Op) → IsChain version chain → IsLogged c
+    → length (line_of_command chain c) ≤ MAX_LINE
+line_short version chain c h k = let short = k.short in omega (arith, short, line_long chain c, chain_short version chain h)
+
+name_no_feed : (version : LogVersion) → NoFeed (log_name version)
+name_no_feed One = feeds (codes "beanpax-log") (codes " 1") (plain_no_feed (codes "beanpax-log") (by_test (codes "beanpax-log") refl))
+    ((λ same. omega arith), ((λ same. omega arith), tt))
+name_no_feed Two = feeds (codes "beanpax-log") (codes " 2") (plain_no_feed (codes "beanpax-log") (by_test (codes "beanpax-log") refl))
     ((λ same. omega arith), ((λ same. omega arith), tt))
 
-pub head_is_line : (weights : List ℕ) → IsMembers weights → IsLogLine (head_line weights)
+pub head_is_line : (version : LogVersion) (weights : List ℕ) → IsMembers weights → IsLogLine (head_line version weights)
 unfolding head_line line
-head_is_line weights h = record {
-  said = log_name ++ spaced (map decimal weights);
-  no_feed = feeds log_name (spaced (map decimal weights)) name_no_feed (spaced_no_feed (map decimal weights) (weights_plain weights h));
+head_is_line version weights h = record {
+  said = log_name version ++ spaced (map decimal weights);
+  no_feed = feeds (log_name version) (spaced (map decimal weights)) (name_no_feed version)
+      (spaced_no_feed (map decimal weights) (weights_plain weights h));
   is = refl;
 }
 
@@ -100,16 +154,21 @@ words_short (w ∷ weights) h =
     let digits : length (decimal w) ≤ 4 = length-decimal-le 4 w (omega arith) (omega (arith, most)) (omega (arith, most)) in
     omega (arith, digits, words_short weights both.1, length-append (after_space (decimal w)) (spaced (map decimal weights)))
 
-pub head_short : (weights : List ℕ) → IsMembers weights → length (head_line weights) ≤ MAX_LINE
-head_short weights h =
+name_long : (version : LogVersion) → length (log_name version) ≡ 13
+name_long One = refl
+name_long Two = refl
+
+pub head_short : (version : LogVersion) (weights : List ℕ) → IsMembers weights → length (head_line version weights) ≤ MAX_LINE
+head_short version weights h =
     let few = h.few in
     let short = words_short weights h.each in
     omega (
       arith,
       few,
       short,
-      ap length (head_is weights),
-      length-append log_name (weight_words weights),
+      name_long version,
+      ap length (head_is version weights),
+      length-append (log_name version) (weight_words weights),
       length-append (spaced (map decimal weights))
           (codes "\n"),
     )
@@ -137,39 +196,42 @@ tells words (Some (entry.Answered a)) says = other_command words (entry.Answered
 tells words (Some (entry.Placed key)) says = other_command words (entry.Placed key) says (λ c same. cc)
 tells words (Some entry.End) says = other_command words entry.End says (λ c same. cc)
 
-other_head : (rest : List ℕ) (e : Entry) → Says (codes "weights" ++ rest) (Some e)
-    → ((ws : List ℕ) → e ≡ entry.Weights ws → ⊥) → Heads (log_name ++ rest) None
-other_head rest e says other ws members same =
-    let words = append_cancel_left log_name (weight_words ws) rest (sym (head_is ws) ∙ same) in
+other_head : (version : LogVersion) (rest : List ℕ) (e : Entry) → Says (codes "weights" ++ rest) (Some e)
+    → ((ws : List ℕ) → e ≡ entry.Weights ws → ⊥) → HeadsIn version (log_name version ++ rest) None
+other_head version rest e says other ws members same =
+    let words = append_cancel_left (log_name version) (weight_words ws) rest (sym (head_is version ws) ∙ same) in
     other ws (same_entry e (entry.Weights ws) says.1 members
     (says.0 ∙ ap (λ t. codes "weights" ++ t) (sym words) ∙ sym (weights_are ws)))
 
-heads : (rest : List ℕ) (read : Option Entry) → Says (codes "weights" ++ rest) read → Heads (log_name ++ rest) (told_head read)
-heads rest None says = λ ws members same.
-    let words = append_cancel_left log_name (weight_words ws) rest (sym (head_is ws) ∙ same) in
+heads : (version : LogVersion) (rest : List ℕ) (read : Option Entry) → Says (codes "weights" ++ rest) read
+    → HeadsIn version (log_name version ++ rest) (told_head read)
+heads version rest None says = λ ws members same.
+    let words = append_cancel_left (log_name version) (weight_words ws) rest (sym (head_is version ws) ∙ same) in
     says (entry.Weights ws) members (weights_are ws ∙ ap (λ t. codes "weights" ++ t) words)
-heads rest (Some (entry.Weights ws)) says = (
-  head_is ws ∙ ap (λ t. log_name ++ t) (append_cancel_left (codes "weights") (weight_words ws) rest (sym (weights_are ws) ∙ says.0)),
+heads version rest (Some (entry.Weights ws)) says = (
+  head_is version ws
+      ∙ ap (λ t. log_name version ++ t) (append_cancel_left (codes "weights") (weight_words ws) rest (sym (weights_are ws) ∙ says.0)),
   says.1,
 )
-heads rest (Some (entry.Version v)) says = other_head rest (entry.Version v) says (λ ws same. cc)
-heads rest (Some (entry.Members n)) says = other_head rest (entry.Members n) says (λ ws same. cc)
-heads rest (Some (entry.Submitted c)) says = other_head rest (entry.Submitted c) says (λ ws same. cc)
-heads rest (Some (entry.Answered a)) says = other_head rest (entry.Answered a) says (λ ws same. cc)
-heads rest (Some (entry.Placed key)) says = other_head rest (entry.Placed key) says (λ ws same. cc)
-heads rest (Some entry.End) says = other_head rest entry.End says (λ ws same. cc)
+heads version rest (Some (entry.Version v)) says = other_head version rest (entry.Version v) says (λ ws same. cc)
+heads version rest (Some (entry.Members n)) says = other_head version rest (entry.Members n) says (λ ws same. cc)
+heads version rest (Some (entry.Submitted c)) says = other_head version rest (entry.Submitted c) says (λ ws same. cc)
+heads version rest (Some (entry.Answered a)) says = other_head version rest (entry.Answered a) says (λ ws same. cc)
+heads version rest (Some (entry.Placed key)) says = other_head version rest (entry.Placed key) says (λ ws same. cc)
+heads version rest (Some entry.End) says = other_head version rest entry.End says (λ ws same. cc)
 
 -- where a line doesn't begin with the name of a log, it is no head
-pub no_head : (text : List ℕ) → ((rest : List ℕ) → text ≡ log_name ++ rest → ⊥) → Heads text None
-no_head text none ws members same = none (weight_words ws) (sym same ∙ head_is ws)
+pub no_head : (version : LogVersion) (text : List ℕ) → ((rest : List ℕ) → text ≡ log_name version ++ rest → ⊥) → HeadsIn version text None
+no_head version text none ws members same = none (weight_words ws) (sym same ∙ head_is version ws)
 
 -- ---- and what is read of a line of a log
 
-pub reads_head : (line weights dumped : List ℕ) (read : Option Entry) (found : Option (List ℕ)) → line ≡ log_name ++ weights
-    → dumped ≡ codes "weights" ++ weights → Says dumped read → found ≡ told_head read → Heads line found
-reads_head line weights dumped read found cut is says told =
-    subst (λ f. Heads line f) (sym told)
-    (subst (λ l. Heads l (told_head read)) (sym cut) (heads weights read (subst (λ d. Says d read) is says)))
+pub reads_head : (version : LogVersion) (line weights dumped : List ℕ) (read : Option Entry) (found : Option (List ℕ))
+    → line ≡ log_name version ++ weights → dumped ≡ codes "weights" ++ weights → Says dumped read → found ≡ told_head read
+    → HeadsIn version line found
+reads_head version line weights dumped read found cut is says told =
+    subst (λ f. HeadsIn version line f) (sym told)
+    (subst (λ l. HeadsIn version l (told_head read)) (sym cut) (heads version weights read (subst (λ d. Says d read) is says)))
 
 pub reads_command : (words dumped : List ℕ) (read : Option Entry) (found : Option (Command Op))
     → dumped ≡ codes "S " ++ (words ++ codes "\n") → Says dumped read → found ≡ told_command read → TellsCommand words found

@@ -6,14 +6,14 @@ use Rattle.command_log.specs.declared.faults.LogFault.{LogFault}
 use Rattle.command_log.specs.declared.faults.LogFault.TheVariants.{Unbegun, BadHead, Damaged}
 use Rattle.command_log.specs.declared.faults.WriteFault.{WriteFault}
 use Rattle.command_log.specs.declared.faults.WriteFault.TheVariants.{OutOfMemory, TooLong}
-use Rattle.command_log.specs.declared.line.TheConstants.{MAX_LINE}
+use Rattle.command_log.specs.declared.line.TheConstants.{MAX_WORDS}
 use Rattle.command_log.specs.Reading.{EndsInHead, HasBadHead, IsDamagedAt}
-use Rattle.command_log.specs.Text.{line_of_command}
+use Rattle.command_log.specs.Text.{command_words}
 
 -- what a fault says of the command
 abbrev pub IsWriteFault : Command Op → WriteFault → Type 0
 IsWriteFault c OutOfMemory = ⊤
-IsWriteFault c TooLong = MAX_LINE < length (line_of_command c)
+IsWriteFault c TooLong = MAX_WORDS < length (command_words c)
 
 -- what a fault says of the text
 abbrev pub IsLogFault : List ℕ → LogFault → Type 0

@@ -1,5 +1,5 @@
 -- Where a reader stands in a text.
-use Rattle.std.specs.Prelude.{◌≡◌, ℕ, suc, ◌<◌, ◌^◌, List, [], ◌∷◌, ◌++◌, length, take, None}
+use Rattle.std.specs.Prelude.{◌≡◌, ◌↔◌, ℕ, suc, ◌<◌, ◌^◌, IsTrue, List, [], ◌∷◌, ◌++◌, length, take, None}
 use Rattle.std.specs.List.{AllByRecursion}
 use Rattle.object.specs.declared.command.Command.{Command}
 use Rattle.bean_words.specs.declared.op.Op.{Op}
@@ -9,7 +9,7 @@ use Rattle.command_log.specs.declared.reader.LogReader.{LogReader}
 use Rattle.command_log.specs.declared.stage.Stage.{Stage}
 use Rattle.command_log.specs.declared.stage.Stage.TheVariants.{Head, BadHead, Right, Wrong, Damaged}
 use Rattle.command_log.specs.Lines.{Heads, IsLogLine, IsWrongLogLine}
-use Rattle.command_log.specs.Reading.{IsLog, IsDamagedAt}
+use Rattle.command_log.specs.Reading.{EndsInHead, IsLog, IsDamagedAt}
 use Rattle.command_log.specs.Text.{log_text}
 
 -- the first line isn't a head
@@ -31,8 +31,9 @@ pub record GoesWrong (log text : List ℕ) : Type 0 where
 abbrev pub StandsAfter : Stage → List ℕ → List (Command Op) → Type 0
 StandsAfter Head text commands = (text ≡ []) × (commands ≡ [])
 StandsAfter BadHead text commands = BeginsOtherwise text
-StandsAfter (Right whole) text commands = IsLog whole commands × (text ≡ log_text whole.members commands)
-StandsAfter (Wrong whole) text commands = IsLog whole commands × GoesWrong (log_text whole.members commands) text
+StandsAfter (Right whole) text commands = IsLog whole commands × (text ≡ log_text whole.version whole.members commands)
+StandsAfter (Wrong whole) text commands =
+    IsLog whole commands × GoesWrong (log_text whole.version whole.members commands) text
 StandsAfter (Damaged n) text commands = IsDamagedAt n text
 
 -- what is kept of a line: enough to see that it is too long
@@ -46,6 +47,7 @@ pub record HasRead (reader : LogReader) (text : List ℕ) (commands : List (Comm
   pub cut : text ≡ lines ++ tail
   pub no_feed : NoFeed tail
   pub keeps : reader.line.items ≡ beginning_kept tail
+  pub begun : reader.stage ≡ Head → (IsTrue reader.begun ↔ EndsInHead tail)
   pub stands : StandsAfter reader.stage lines commands
 
 -- A reader that has read a text has read these bytes behind it, too, and has given the commands that came to the list; before,

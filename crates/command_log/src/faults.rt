@@ -8,7 +8,7 @@ use thiserror::Error;
 pub enum WriteFault {
     #[error("out of memory")]
     OutOfMemory,
-    /// Its line has more bytes than a log's line may have.
+    /// Its words have more bytes than those of a log's line may have.
     #[error("the command is too long for a log")]
     TooLong,
 }
@@ -30,10 +30,11 @@ pub enum LogFault {
     /// It ends before its head does.
     #[error("no whole head")]
     Unbegun,
-    /// Its first line isn't a head.
+    /// It doesn't begin with a head, nor with the beginning of one.
     #[error("line 1: not the head of a log")]
     BadHead,
-    /// The first wrong line, counted from 1. A right one stands behind it.
-    #[error("line {0}: wrong, and a right line stands behind it")]
+    /// The first line, counted from 1, that doesn't go on with the log before it. There or behind stands a right line, of
+    /// whatever version.
+    #[error("line {0}: it doesn't follow the line before it, or is wrong, and a right line follows")]
     Damaged(u64),
 }

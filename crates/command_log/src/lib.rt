@@ -4,6 +4,7 @@
 //! any bytes are, read as a log, and `specs/Progress.antt` where a reader stands that takes them in pieces.
 #![tactic(auto)]
 
+mod chain;
 mod faults;
 mod head;
 mod laws;
@@ -11,11 +12,14 @@ mod line;
 mod reader;
 mod stage;
 mod sum;
+mod version;
 mod whole;
 
+pub use chain::Chain;
 pub use faults::{LogFault, WriteFault};
 pub use head::write_head;
 pub use laws::one_log;
-pub use line::{MAX_LINE, write_command};
+pub use line::{MAX_LINE, MAX_WORDS, write_command};
 pub use reader::LogReader;
+pub use version::LogVersion;
 pub use whole::Whole;

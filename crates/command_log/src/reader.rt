@@ -4,11 +4,11 @@ ghost use Rattle.bean_words.specs.declared.op.Op.{Op};
 ghost use Rattle.chronicle_text.specs.Lines.{NoFeed};
 ghost use Rattle.command_log.specs.Faults.{IsLogFault};
 ghost use Rattle.command_log.specs.Lines.{IsLogLine};
-ghost use Rattle.command_log.specs.Progress.{HasRead, ReadsOn, beginning_kept};
+ghost use Rattle.command_log.specs.Progress.{HasRead, ReadsOn};
 ghost use Rattle.command_log.specs.Reading.{IsWholeLog};
 
 use crate::faults::LogFault;
-use crate::head::agrees_with_head;
+use crate::head::begins_head;
 use crate::line::MAX_LINE;
 use crate::stage::Stage;
 use crate::whole::Whole;
@@ -21,6 +21,8 @@ use std::alloc::{AllocError, Global};
 #[derive(Drop)]
 pub struct LogReader {
     line: Vec<u8>,
+    // Whether what stands there of the first line is a beginning of a head.
+    begun: bool,
     stage: Stage,
 }
 
@@ -31,6 +33,7 @@ impl LogReader {
     {
         LogReader {
             line: Vec::new(alloc),
+            begun: true,
             stage: Stage::Head,
         }
     }
@@ -55,17 +58,18 @@ impl LogReader {
         reader.begin_line(rest)
     }
 
-    /// The log that stands whole at the beginning of what was read. What stands behind it has no line of a log, and may be
-    /// cut off.
+    /// The log that stands whole at the beginning of what was read. What stands behind it has no right line of any version,
+    /// and may be cut off.
     pub fn finish(self) -> Result<Whole, LogFault>
         ensures whole { IfOk result (λ whole. (text : List ℕ) (commands : List (Command Op))
             → HasRead self text commands → IsWholeLog text whole commands) }
         ensures fault { IfErr result (λ fault. (text : List ℕ) (commands : List (Command Op))
             → HasRead self text commands → IsLogFault text fault) }
     {
-        let LogReader { line, stage } = self;
+        let LogReader { begun, stage, .. } = self;
         match stage {
-            Stage::Head => Err(fault_of_start(&line)),
+            Stage::Head if begun => Err(LogFault::Unbegun),
+            Stage::Head => Err(LogFault::BadHead),
             Stage::BadHead => Err(LogFault::BadHead),
             Stage::Right(whole) | Stage::Wrong(whole) => Ok(whole),
             Stage::Damaged(line) => Err(LogFault::Damaged(line)),
@@ -78,11 +82,19 @@ impl LogReader {
         ensures { IfOk result
             (λ reader. ReadsOn self commands.old.items end.now reader commands.new.items) }
     {
-        let LogReader { mut line, stage } = self;
+        let LogReader {
+            mut line,
+            stage,
+            ..
+        } = self;
         keep(&mut line, end)?;
         let stage = stage.after_line(*line.allocator(), &line, commands)?;
         line.clear();
-        Ok(LogReader { line, stage })
+        Ok(LogReader {
+            line,
+            begun: true,
+            stage,
+        })
     }
 
     // Reads on within a line.
@@ -91,20 +103,17 @@ impl LogReader {
         ensures { IfOk result (λ reader. (commands : List (Command Op))
             → ReadsOn self commands part.now reader commands) }
     {
-        let LogReader { mut line, stage } = self;
+        let LogReader {
+            mut line,
+            stage,
+            ..
+        } = self;
         keep(&mut line, part)?;
-        Ok(LogReader { line, stage })
-    }
-}
-
-// What is wrong with a text of which this is shown, and which has no whole line.
-fn fault_of_start(shown: &[u8]) -> LogFault
-    ensures { (text : List ℕ) → NoFeed text → shown.now ≡ beginning_kept text → IsLogFault text result }
-{
-    if agrees_with_head(shown) {
-        LogFault::Unbegun
-    } else {
-        LogFault::BadHead
+        let begun = match stage {
+            Stage::Head => begins_head(*line.allocator(), &line)?,
+            _ => true,
+        };
+        Ok(LogReader { line, begun, stage })
     }
 }
 

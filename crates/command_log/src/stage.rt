@@ -1,10 +1,12 @@
-ghost use Rattle.std.specs.Prelude.{List, IfOk};
+ghost use Rattle.std.specs.Prelude.{List, IfOk, None};
 ghost use Rattle.object.specs.declared.command.Command.{Command};
 ghost use Rattle.bean_words.specs.declared.op.Op.{Op};
+ghost use Rattle.command_log.specs.Lines.{HoldsCommand};
 ghost use Rattle.command_log.specs.Progress.{StepsOn};
 
+use crate::chain::Chain;
 use crate::head::read_head;
-use crate::line::read_command;
+use crate::line::{LogLine, is_right, read_line};
 use crate::whole::Whole;
 use bean_words::Op;
 use object::Command;
@@ -17,11 +19,11 @@ pub enum Stage {
     Head,
     /// The first isn't a head.
     BadHead,
-    /// All of them are right.
+    /// All of them are a log.
     Right(Whole),
     /// Behind this log stand wrong ones alone.
     Wrong(Whole),
-    /// This line is wrong, and behind it stands a right one.
+    /// This line doesn't go on with the log before it, and there or behind stands a right one.
     Damaged(u64),
 }
 
@@ -50,13 +52,14 @@ fn after_nothing(alloc: Global, line: &[u8]) -> Result<Stage, AllocError>
     ensures { IfOk result (λ stage. (commands : List (Command Op))
         → StepsOn Stage.Head commands line.now stage commands) }
 {
-    match read_head(alloc, line)? {
-        Some(members) => Ok(Stage::Right(Whole::of_head(members, line.len()))),
-        None => Ok(Stage::BadHead),
-    }
+    let Some(head) = read_head(alloc, line)? else {
+        return Ok(Stage::BadHead);
+    };
+    let chain = Chain::behind_head(alloc, head.version, line)?;
+    Ok(Stage::Right(Whole::of_head(head, chain, line.len())))
 }
 
-// A right line goes on with the log.
+// The line of a command that is chained to the log goes on with it.
 fn after_right(
     alloc: Global,
     whole: Whole,
@@ -66,20 +69,27 @@ fn after_right(
     ensures { IfOk result (λ stage. StepsOn (Stage.Right whole) commands.old.items line.now stage
         commands.new.items) }
 {
-    let Some(command) = read_command(alloc, line)? else {
-        return Ok(Stage::Wrong(whole));
+    let Some(read) = read_line(alloc, whole.version, line)? else {
+        return after_wrong(alloc, whole, line);
     };
+    if !read.follows(whole.chain) {
+        return Ok(Stage::Damaged(whole.lines.saturating_add(1)));
+    }
+    let LogLine { command, next, .. } = read;
     commands.push(command)?;
-    Ok(Stage::Right(whole.with_line(line.len())))
+    Ok(Stage::Right(whole.with_line(next, line.len())))
 }
 
-// Behind a wrong line no right one may stand.
+// A line that doesn't go on with the log may not be right, nor may one behind it, of whatever version.
 fn after_wrong(alloc: Global, whole: Whole, line: &[u8]) -> Result<Stage, AllocError>
-    ensures { IfOk result (λ stage. (commands : List (Command Op))
+    ensures first { IfOk result (λ stage. (commands : List (Command Op))
+        → HoldsCommand whole.version line.now None
+        → StepsOn (Stage.Right whole) commands line.now stage commands) }
+    ensures later { IfOk result (λ stage. (commands : List (Command Op))
         → StepsOn (Stage.Wrong whole) commands line.now stage commands) }
 {
-    let Some(_command) = read_command(alloc, line)? else {
+    if !is_right(alloc, line)? {
         return Ok(Stage::Wrong(whole));
-    };
+    }
     Ok(Stage::Damaged(whole.lines.saturating_add(1)))
 }

@@ -1,5 +1,5 @@
 -- Both kinds of tickets keep their acts.
-use Rattle.std.specs.Prelude.{◌≡◌, ◌<◌, ◌-◌, List, [], ◌∷◌, ◌++◌, length, slice_get, Option, None, Some, refl}
+use Rattle.std.specs.Prelude.{◌≡◌, ◌<◌, ◌+◌, ◌-◌, List, [], ◌∷◌, ◌++◌, length, slice_get, Option, None, Some, refl}
 use Rattle.std.proofs.Common.{sym, ap, ◌∙◌, length-append, arith}
 use Rattle.std.proofs.lemmas.Option.{slice_get-get_or}
 use Rattle.std.proofs.Math.Seq.{get_or-append_seam}
@@ -45,12 +45,21 @@ keeps_all = record {
   stays_with_noted = all_stays;
 }
 
+-- one act more is counted
+more_acts : (acts : List (NotedAct Op Reply)) (a : NotedAct Op Reply) → length acts + 1 ≡ length (acts ++ a ∷ [])
+more_acts acts a = omega (arith, length-append acts (a ∷ []))
+
+-- as many as with another act in the place of the last one
+as_many : (before : List (NotedAct Op Reply)) (a b : NotedAct Op Reply) → length (before ++ a ∷ []) ≡ length (before ++ b ∷ [])
+as_many before a b = sym (more_acts before a) ∙ more_acts before b
+
 pub keeps_last : KeepsActs keeping_last
 keeps_last = record {
-  adds = λ t acts act is. sym (ap noted_reply (last_of-append acts (unanswered act)));
-  notes = λ t before op last reply is. sym (ap noted_reply (last_of-append before (noted_op op (Some reply))));
+  adds = λ t acts act is. (ap (λ n. n + 1) is.0 ∙ more_acts acts (unanswered act), sym (ap noted_reply (last_of-append acts (unanswered act))));
+  notes = λ t before op last reply is.
+      (is.0 ∙ as_many before (noted_op op last) (noted_op op (Some reply)), sym (ap noted_reply (last_of-append before (noted_op op (Some reply)))));
   leaves = λ t. refl;
-  tells = λ t before op last is. is ∙ ap noted_reply (last_of-append before (noted_op op last));
+  tells = λ t before op last is. is.1 ∙ ap noted_reply (last_of-append before (noted_op op last));
   stays_with_act = λ t act. refl;
   stays_with_noted = lean_stays;
 }

@@ -1,15 +1,18 @@
-ghost use Rattle.std.specs.Prelude.{◌≡◌, None, Some};
+ghost use Rattle.std.specs.Prelude.{◌≡◌, ◌<◌, ◌-◌, ◌^◌, None, Some};
 ghost use Rattle.std.specs.Option.{option_copied};
-ghost use Rattle.conversation.specs.Tickets.{LeanTicketState, lean_with_noted};
+ghost use Rattle.conversation.specs.Tickets.{new_lean_ticket, last_lean_key, lean_handed_in};
 
 use crate::session_ticket::SessionTicket;
 use bean_words::Reply;
+use object::Key;
 use std::marker::Model;
 
-/// The ticket of a session at a hall that forgets: it has the reply to the last act alone, once that is noted.
+/// The ticket of a session at a hall that forgets: it has the number of the last act, 0 where none was handed in, and the reply
+/// to that act alone, once it is noted.
 #[derive(Drop)]
 pub struct LeanTicket {
     session: u32,
+    number: u64,
     reply: Option<Reply>,
 }
 
@@ -18,16 +21,17 @@ impl Model for LeanTicket {
 
     ghost Value = { LeanTicketState };
 
-    ghost view = { λ t. record { session = t.session; reply = t.reply } };
+    ghost view = { λ t. record { session = t.session; number = t.number; reply = t.reply } };
 }
 
 impl LeanTicket {
     /// The ticket of a session that has handed in nothing.
     pub fn new(session: u32) -> LeanTicket
-        ensures { result ≡ record { session = session; reply = None } }
+        ensures { result ≡ new_lean_ticket session }
     {
         LeanTicket {
             session,
+            number: 0,
             reply: None,
         }
     }
@@ -39,10 +43,22 @@ impl LeanTicket {
         self.session
     }
 
-    /// An act more was handed in, which has no reply yet.
-    pub fn hand_in(&mut self)
-        ensures { self.new ≡ record self.old { reply = None } }
+    /// The key of its session's last command; the number is 0 where there is none.
+    pub fn last_key(&self) -> Key
+        ensures { result ≡ last_lean_key self.now }
     {
+        Key {
+            session: self.session,
+            number: self.number,
+        }
+    }
+
+    /// An act more was handed in, under the next number. It has no reply yet.
+    pub fn hand_in(&mut self)
+        requires { self.old.number < 2 ^ 64 - 1 }
+        ensures { self.new ≡ lean_handed_in self.old }
+    {
+        self.number += 1;
         self.reply = None;
     }
 

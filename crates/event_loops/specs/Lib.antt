@@ -1,1 +1,3 @@
 pub mod LoopCounts
+pub mod Courses
+pub mod Seats

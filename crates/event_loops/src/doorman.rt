@@ -7,15 +7,20 @@ use crate::troubles::{Trouble, trouble_of};
 use backoff::Backoff;
 use mio::net::{TcpListener, TcpStream};
 use mio::{Events, Interest, Poll, Token};
+use std::alloc::Global;
 use std::io;
-use std::io::ErrorKind;
+use std::io::{Eprint, ErrorKind};
+use std::rt::Clock;
 use std::sync::Wait;
-use std::time::Duration;
+use std::time::{Duration, Instant};
 
 const LISTENER: Token = Token(1);
 
 /// So many milliseconds pass at first until it tries again where the system was short of something.
 const FIRST_PAUSE: u64 = 100;
+
+/// Where the system is short of something, that is told again after so many seconds.
+const TOLD_AGAIN: u64 = 60;
 
 /// While a loop has fewer clients than these, no other one is begun.
 const FEW: usize = 8;
@@ -29,6 +34,8 @@ pub(crate) struct Doorman {
     left: Option<u32>,
     /// It begins anew when somebody is let in.
     backoff: Backoff,
+    /// When it was told last that the system is short of something.
+    told_at: Option<Instant>,
 }
 
 impl Doorman {
@@ -45,18 +52,20 @@ impl Doorman {
             listener,
             left,
             backoff: Backoff::new(FIRST_PAUSE),
+            told_at: None,
         })
     }
 
     /// Lets clients in, until as many have come as there was said, or no more may. Where the system is short of something,
-    /// it tries again after a pause.
-    pub(crate) fn let_in<R: Wait + AllocGlobal>(
+    /// it tells that, and tries again after a pause.
+    pub(crate) fn let_in<R: Wait + Clock + Eprint>(
         mut self,
         rt: &R,
+        alloc: Global,
         loops: &[Mailbox],
         own: &Mailbox,
     ) -> Result<(), ServeFault> {
-        let mut events = Events::with_capacity(rt.alloc(), 4)?;
+        let mut events = Events::with_capacity(alloc, 4)?;
         let mut timeout = Some(Duration::ZERO);
         for _ in rt.forever() {
             if !own.may_sleep() {
@@ -65,8 +74,13 @@ impl Doorman {
             self.poll.poll(&mut events, timeout)?;
             timeout = match self.accept_all(rt, loops) {
                 Ok(()) => None,
-                Err(Trouble::Listener) => return Err(ServeFault::ListenFailed),
-                Err(Trouble::Shortage | Trouble::Connection) => Some(self.backoff.next_pause()),
+                Err(e) => match trouble_of(&e) {
+                    Trouble::Listener => return Err(ServeFault::ListenFailed(e)),
+                    Trouble::Shortage | Trouble::Connection => {
+                        self.tell_shortage(rt, &e);
+                        Some(self.backoff.next_pause())
+                    }
+                },
             };
             if self.is_full() {
                 return Ok(());
@@ -92,7 +106,7 @@ impl Doorman {
 
     // Accepts until none waits, or as many have come as there was said. A connection that went wrong before it was accepted
     // counts for nothing.
-    fn accept_all<R: Wait>(&mut self, rt: &R, loops: &[Mailbox]) -> Result<(), Trouble> {
+    fn accept_all<R: Wait>(&mut self, rt: &R, loops: &[Mailbox]) -> io::Result<()> {
         for _ in 0..u64::MAX {
             if self.is_full() {
                 return Ok(());
@@ -108,11 +122,22 @@ impl Doorman {
                 Err(e) if e.kind() == ErrorKind::WouldBlock => return Ok(()),
                 Err(e) => match trouble_of(&e) {
                     Trouble::Connection => {}
-                    trouble => return Err(trouble),
+                    Trouble::Listener | Trouble::Shortage => return Err(e),
                 },
             }
         }
         Ok(())
+    }
+
+    // Tells on standard error that no client can be let in, and why, unless it did within the last minute.
+    fn tell_shortage<R: Clock + Eprint>(&mut self, rt: &R, error: &io::Error) {
+        let passed = self.told_at.and_then(|at| at.elapsed(rt).ok());
+        if passed.is_some_and(|passed| passed < Duration::from_secs(TOLD_AGAIN)) {
+            return;
+        }
+        self.told_at = Instant::now(rt).ok();
+        // where standard error has failed, nobody can be told
+        let _ = eprintln!(rt; "beanpax: no client can be let in: {error}");
     }
 }
 

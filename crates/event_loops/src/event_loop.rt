@@ -1,3 +1,6 @@
+ghost use Rattle.std.specs.Prelude.{◌≡◌, ◌≢◌, ◌≤◌, true, None, OnOk};
+
+use crate::beginning::Beginning;
 use crate::desk::LoopDesk;
 use crate::fault::ServeFault;
 use crate::house::House;
@@ -10,6 +13,7 @@ use backoff::Backoff;
 use bean_codec::Profile;
 use conversation::{Client, Conversation, LONGEST_PIECE};
 use hall::HallError;
+use journal::Kept;
 use mio::net::TcpStream;
 use mio::{Events, Interest, Poll, Token};
 use std::alloc::Global;
@@ -35,10 +39,10 @@ const MOST_UNKEPT: u64 = 16;
 
 /// What loops have in common.
 #[derive(Drop)]
-pub(crate) struct Common<'a, R, D: LoopDesk> {
+pub(crate) struct Common<'a, R, D: LoopDesk, B: Beginning> {
     pub(crate) rt: &'a R,
     pub(crate) alloc: Global,
-    pub(crate) house: &'a Mutex<House<D>>,
+    pub(crate) house: &'a Mutex<House<D, B>>,
     pub(crate) mailboxes: &'a [Mailbox],
     /// Of who lets clients in.
     pub(crate) door: &'a Mailbox,
@@ -48,7 +52,7 @@ pub(crate) struct Common<'a, R, D: LoopDesk> {
     pub(crate) log: &'a Option<SharedLog>,
 }
 
-impl<'a, R: Wait, D: LoopDesk> Common<'a, R, D> {
+impl<'a, R: Wait, D: LoopDesk, B: Beginning> Common<'a, R, D, B> {
     /// Wakes all, since no client comes any more.
     pub(crate) fn end_all(&self) {
         for mailbox in self.mailboxes {
@@ -68,14 +72,12 @@ impl<'a, R: Wait, D: LoopDesk> Common<'a, R, D> {
 
 /// A loop over its clients.
 #[derive(Drop)]
-pub(crate) struct EventLoop<'a, R, D: LoopDesk> {
-    common: &'a Common<'a, R, D>,
+pub(crate) struct EventLoop<'a, R, D: LoopDesk, B: Beginning> {
+    common: &'a Common<'a, R, D, B>,
     own: &'a Mailbox,
     /// Which of the loops it is, from 0.
     at: usize,
-    /// The node at which it hands in.
-    node: u8,
-    seats: Seats<D::Ticket>,
+    seats: Seats<TcpStream, D::Ticket>,
     /// The keys of those with something to hand in.
     asking: Vec<usize>,
     /// The keys of those whose ask was answered.
@@ -86,6 +88,8 @@ pub(crate) struct EventLoop<'a, R, D: LoopDesk> {
     told: Vec<(u32, usize)>,
     /// Somebody is to be told something, or nothing was kept for long.
     owes: bool,
+    /// How much of the log is kept: what rests on no more may be told.
+    kept: Kept,
     piece: [u8; LONGEST_PIECE],
     second: Option<u64>,
     /// The nodes have something left to do.
@@ -98,26 +102,25 @@ pub(crate) struct EventLoop<'a, R, D: LoopDesk> {
     is_over: bool,
 }
 
-impl<'a, R: Wait + Clock, D: LoopDesk> EventLoop<'a, R, D> {
+impl<'a, R: Wait + Clock, D: LoopDesk, B: Beginning> EventLoop<'a, R, D, B> {
     /// A loop without clients.
     pub(crate) fn new(
-        common: &'a Common<'a, R, D>,
+        common: &'a Common<'a, R, D, B>,
         own: &'a Mailbox,
         at: usize,
-        node: u8,
-    ) -> EventLoop<'a, R, D> {
+    ) -> EventLoop<'a, R, D, B> {
         let alloc = common.alloc;
         EventLoop {
             common,
             own,
             at,
-            node,
             seats: Seats::new(alloc),
             asking: Vec::new(alloc),
             answered: Vec::new(alloc),
             listed: Vec::new(alloc),
             told: Vec::new(alloc),
             owes: false,
+            kept: Kept::none(),
             piece: [0; LONGEST_PIECE],
             second: None,
             has_more: false,
@@ -230,7 +233,7 @@ impl<'a, R: Wait + Clock, D: LoopDesk> EventLoop<'a, R, D> {
             if event.token() != WAKER {
                 let key = event.token().0;
                 if let Some(seat) = self.seats.get_mut(key) {
-                    seat.note(event);
+                    seat.see(event);
                 }
                 self.go_on_with(key);
             }
@@ -242,7 +245,11 @@ impl<'a, R: Wait + Clock, D: LoopDesk> EventLoop<'a, R, D> {
         let Some(seat) = self.seats.get_mut(key) else {
             return;
         };
-        match seat.go_on(&mut self.piece) {
+        if !seat.is_kept(self.kept) {
+            // `meet` goes on with it
+            return;
+        }
+        match seat.go_on(&mut self.piece, self.kept) {
             Wish::Wait => {}
             Wish::HandIn => self.is_refused |= !seat.put_on(&mut self.asking, key),
             Wish::GoOn => self.is_refused |= !seat.put_on(&mut self.listed, key),
@@ -278,17 +285,26 @@ impl<'a, R: Wait + Clock, D: LoopDesk> EventLoop<'a, R, D> {
     }
 
     // Has the log kept up to this count of commands, where somebody waits for that.
-    fn keep(&self, count: u64) -> Result<(), ServeFault> {
+    fn keep(&mut self, count: u64) -> Result<(), ServeFault>
+        ensures { OnOk result (self.old.owes ≡ true → self.old.common.now.log.now ≢ None →
+            count ≤ self.new.kept) }
+    {
         let common = self.common;
-        match common.log {
-            Some(log) if self.owes && log.pause().is_zero() => {
-                let kept = log.keep(common.rt, common.house, count);
-                if kept.is_err() {
-                    common.end_all();
-                }
-                kept
+        let Some(log) = common.log else {
+            return Ok(());
+        };
+        if !self.owes {
+            return Ok(());
+        }
+        match log.keep(common.rt, common.house, count) {
+            Ok(held) => {
+                self.kept = held.kept;
+                Ok(())
             }
-            _ => Ok(()),
+            Err(fault) => {
+                common.end_all();
+                Err(fault)
+            }
         }
     }
 
@@ -304,7 +320,7 @@ impl<'a, R: Wait + Clock, D: LoopDesk> EventLoop<'a, R, D> {
             self.try_again();
         }
         self.hand_in(&mut house);
-        let settled = house.desk.settle(self.node);
+        let settled = house.settle(self.node());
         self.has_more = matches!(settled, Ok(false));
         self.is_refused |= settled.is_err();
         self.sort_answers(&mut house);
@@ -312,22 +328,29 @@ impl<'a, R: Wait + Clock, D: LoopDesk> EventLoop<'a, R, D> {
         self.see_off(&mut house, settled);
         let is_long = second.is_some_and(|second| second % MOST_UNKEPT == 0);
         self.owes = is_long || !self.answered.is_empty() || !self.told.is_empty();
-        house.desk.placed_count()
+        house.desk().placed_count()
+    }
+
+    // The node at which it hands in.
+    fn node(&self) -> u8
+        ensures { 1 ≤ result }
+    {
+        node_of_turn(self.common.nodes, self.at as u64)
     }
 
     // Hands in what there is.
-    fn hand_in(&mut self, house: &mut House<D>) {
-        house.desk.stand_at(self.node);
+    fn hand_in(&mut self, house: &mut House<D, B>) {
+        house.stand_at(self.node());
         for key in self.asking.iter() {
             if let Some(seat) = self.seats.get_mut(*key) {
-                seat.hand_in(&mut house.desk);
+                house.hand_in(seat);
                 self.is_refused |= seat.is_refused;
             }
         }
     }
 
     // Whose clients were answered: its own, or those of other loops.
-    fn sort_answers(&mut self, house: &mut House<D>) {
+    fn sort_answers(&mut self, house: &mut House<D, B>) {
         for _ in 0..u64::MAX {
             let Some((session, owner)) = house.next_answered() else {
                 break;
@@ -341,17 +364,17 @@ impl<'a, R: Wait + Clock, D: LoopDesk> EventLoop<'a, R, D> {
     }
 
     // Notes the answers to its own clients.
-    fn note_answers(&mut self, house: &House<D>) {
+    fn note_answers(&mut self, house: &House<D, B>) {
         for key in self.answered.iter() {
             if let Some(seat) = self.seats.get_mut(*key) {
-                self.is_refused |= seat.client.note(&house.desk).is_err();
+                self.is_refused |= seat.note(house.desk()).is_err();
             }
         }
     }
 
     // Sees off those that have left. Where no node has anything left to do, those that send nothing more wait
     // no longer; where a node was refused memory, all wait until the loop tries again.
-    fn see_off(&mut self, house: &mut House<D>, settled: Result<bool, HallError>) {
+    fn see_off(&mut self, house: &mut House<D, B>, settled: Result<bool, HallError>) {
         for key in self.asking.iter() {
             if let Some(seat) = self.seats.get_mut(*key) {
                 match settled {
@@ -359,21 +382,19 @@ impl<'a, R: Wait + Clock, D: LoopDesk> EventLoop<'a, R, D> {
                     Ok(false) => {}
                     Err(_) => seat.is_refused = true,
                 }
-                if seat.has_left() {
-                    house.see_off(seat.ticket());
-                }
+                house.see_off(seat);
             }
         }
     }
 
     // A second has passed: the loop that comes first hands it in. What clients wait for is handed in again.
-    fn pass_second(&mut self, house: &mut House<D>, second: u64) {
-        let node = node_of_second(self.common.nodes, second);
+    fn pass_second(&mut self, house: &mut House<D, B>, second: u64) {
+        let node = node_of_turn(self.common.nodes, second);
         house.tick(second, node);
         for key in 0..self.seats.key_bound() {
             if let Some(seat) = self.seats.get_mut(key) {
                 if seat.is_asked() {
-                    house.desk.hand_in_again(seat.ticket(), node);
+                    house.hand_in_again(seat.ticket(), node);
                 }
             }
         }
@@ -405,7 +426,7 @@ impl<'a, R: Wait + Clock, D: LoopDesk> EventLoop<'a, R, D> {
     }
 
     // Takes the lock. It looks for a while before it sleeps, and lets others go on meanwhile.
-    fn lock(&self) -> MutexGuard<'a, House<D>> {
+    fn lock(&self) -> MutexGuard<'a, House<D, B>> {
         let common = self.common;
         for _ in 0..LOOKS_AT_LOCK {
             if let Some(guard) = common.house.try_lock() {
@@ -417,7 +438,10 @@ impl<'a, R: Wait + Clock, D: LoopDesk> EventLoop<'a, R, D> {
     }
 }
 
-// The node of so many at which a second is handed in: one after the other.
-fn node_of_second(nodes: u8, second: u64) -> u8 {
-    (second % u64::from(nodes.max(1))) as u8 + 1
+// The node of so many whose turn this is: one after the other.
+fn node_of_turn(nodes: u8, turn: u64) -> u8
+    ensures first { 1 ≤ result }
+    ensures last { 1 ≤ nodes → result ≤ nodes }
+{
+    (turn % u64::from(nodes.max(1))) as u8 + 1
 }

@@ -1,21 +1,20 @@
+use journal::JournalFault;
 use std::alloc::AllocError;
 use std::io;
 
 /// What went wrong with a server.
-#[derive(Clone, Copy, Debug, PartialEq, Eq)]
+#[derive(Clone, Copy, Debug, Drop)]
 pub enum ServeFault {
     /// Memory was refused before a client was let in.
     OutOfMemory,
     /// A socket, or what waits for sockets, was refused.
-    ListenFailed,
+    ListenFailed(io::Error),
     /// A thread was refused.
     ThreadFailed,
-    /// A session's ticket doesn't agree with the hall.
+    /// A session's ticket doesn't agree with the hall, or the log's count of commands doesn't.
     BadNumber,
-    /// A write to the log failed.
-    WriteFailed,
-    /// The log could not be synced, or it takes no such command.
-    SyncFailed,
+    /// The log keeps nothing more.
+    LogFailed(JournalFault),
 }
 
 impl From<AllocError> for ServeFault {
@@ -25,7 +24,7 @@ impl From<AllocError> for ServeFault {
 }
 
 impl From<io::Error> for ServeFault {
-    fn from(_: io::Error) -> ServeFault {
-        ServeFault::ListenFailed
+    fn from(error: io::Error) -> ServeFault {
+        ServeFault::ListenFailed(error)
     }
 }

@@ -5,6 +5,7 @@
 //! whose clients were answered meanwhile.
 #![tactic(auto)]
 
+mod beginning;
 mod clients;
 mod clock;
 mod desk;
@@ -17,6 +18,7 @@ mod seat;
 mod seats;
 mod serving;
 mod shared_log;
+mod stream;
 mod syncs;
 mod troubles;
 mod wire;
@@ -26,3 +28,5 @@ pub use desk::LoopDesk;
 pub use fault::ServeFault;
 pub use serving::{Host, Terms, serve_desk};
 pub use shared_log::{Logging, SharedLog};
+pub use stream::Stream;
+pub use wire::Wire;

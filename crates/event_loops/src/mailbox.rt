@@ -1,3 +1,5 @@
+ghost use Rattle.std.specs.Prelude.{◌≡◌};
+
 use mio::net::TcpStream;
 use mio::{Registry, Token, Waker};
 use std::alloc::Global;
@@ -26,6 +28,16 @@ impl Mail {
             second: None,
             is_over: false,
         }
+    }
+
+    // All that there is. That no client comes any more stays known.
+    fn take(&mut self, alloc: Global) -> Mail
+        ensures all { result ≡ self.old }
+        ensures over { self.new.is_over ≡ self.old.is_over }
+    {
+        let mut next = Mail::none(alloc);
+        next.is_over = self.is_over;
+        std::mem::replace(self, next)
     }
 }
 
@@ -111,10 +123,7 @@ impl Mailbox {
         if !self.has_mail.swap(false, Ordering::SeqCst) {
             return None;
         }
-        let mut mail = self.mail.lock(rt);
-        let mut next = Mail::none(alloc);
-        next.is_over = mail.is_over;
-        Some(std::mem::replace(&mut *mail, next))
+        Some(self.mail.lock(rt).take(alloc))
     }
 
     // Wakes the loop, unless it is awake.

@@ -1,4 +1,5 @@
 use crate::seat::Seat;
+use crate::stream::Stream;
 use conversation::SessionTicket;
 use indexmap::IndexMap;
 use slab::Slab;
@@ -6,13 +7,13 @@ use std::alloc::{AllocError, Global};
 
 /// The clients of a loop: each has a key, under which its connection is reported, and is found by its session.
 #[derive(Drop)]
-pub(crate) struct Seats<T: SessionTicket> {
-    seats: Slab<Seat<T>>,
+pub(crate) struct Seats<S: Stream, T: SessionTicket> {
+    seats: Slab<Seat<S, T>>,
     keys: IndexMap<u32, usize>,
 }
 
-impl<T: SessionTicket> Seats<T> {
-    pub(crate) fn new(alloc: Global) -> Seats<T> {
+impl<S: Stream, T: SessionTicket> Seats<S, T> {
+    pub(crate) fn new(alloc: Global) -> Seats<S, T> {
         Seats {
             seats: Slab::new(alloc),
             keys: IndexMap::new(alloc),
@@ -31,7 +32,7 @@ impl<T: SessionTicket> Seats<T> {
     }
 
     /// Takes in a client, where there is room for it.
-    pub(crate) fn take_in(&mut self, seat: Seat<T>) -> Result<usize, AllocError> {
+    pub(crate) fn take_in(&mut self, seat: Seat<S, T>) -> Result<usize, AllocError> {
         let session = seat.ticket().session();
         let key = self.seats.insert(seat).map_err(|_| AllocError)?;
         let _ = self.keys.insert(session, key);
@@ -39,7 +40,7 @@ impl<T: SessionTicket> Seats<T> {
     }
 
     /// The client of this key.
-    pub(crate) fn get_mut(&mut self, key: usize) -> Option<&mut Seat<T>> {
+    pub(crate) fn get_mut(&mut self, key: usize) -> Option<&mut Seat<S, T>> {
         self.seats.get_mut(key)
     }
 

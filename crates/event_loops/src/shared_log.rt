@@ -1,9 +1,15 @@
+ghost use Rattle.std.specs.Prelude.{◌≡◌, ◌≢◌, ◌≤◌, ◌+◌, ◌-◌, ◌^◌, [], length, min, IfOk, IfErr, OnOk};
+ghost use Rattle.std.specs.Duration.{as_nanos};
+ghost use Rattle.event_loops.specs.declared.shared_log.Durability.TheVariants.{Synced, Written};
+ghost use Rattle.event_loops.specs.declared.fault.ServeFault.TheVariants.{OutOfMemory};
+
+use crate::beginning::Beginning;
 use crate::desk::LoopDesk;
 use crate::fault::ServeFault;
 use crate::house::House;
 use backoff::Backoff;
-use journal::{Journal, JournalFault};
-use log_file::KeepFault;
+use journal::{Journal, JournalFault, Kept};
+use std::alloc::AllocError;
 use std::fs::File;
 use std::rt::Clock;
 use std::sync::atomic::{AtomicBool, Ordering};
@@ -61,21 +67,66 @@ impl SharedLog {
         self.has_failed.load(Ordering::SeqCst)
     }
 
-    /// Returns once so many of all commands are kept, with all others that took effect before the last sync began. Where memory
-    /// is refused it is tried again, until it is there.
-    pub(crate) fn keep<R: Wait + Clock, D: LoopDesk>(
+    /// Returns once so many of all commands are kept: synced, or written, where a sync may come later. So are all others
+    /// then that took effect before. Where memory is refused it is tried again, until it is there.
+    pub(crate) fn keep<R: Wait + Clock, D: LoopDesk, B: Beginning>(
         &self,
         rt: &R,
-        house: &Mutex<House<D>>,
+        house: &Mutex<House<D, B>>,
         count: u64,
-    ) -> Result<(), ServeFault> {
+    ) -> Result<Held, ServeFault>
+        ensures kept { IfOk result (λ held. count ≤ held.kept) }
+        ensures synced { as_nanos self.now.pause ≡ 0 → IfOk result (λ held. held.how ≡ Synced) }
+        ensures patient { IfErr result (λ fault. fault ≢ OutOfMemory) }
+    {
+        self.keep_as(rt, house, count, self.durability())
+    }
+
+    /// Returns once so many of all commands are synced.
+    pub(crate) fn sync<R: Wait + Clock, D: LoopDesk, B: Beginning>(
+        &self,
+        rt: &R,
+        house: &Mutex<House<D, B>>,
+        count: u64,
+    ) -> Result<Held, ServeFault>
+        ensures kept { IfOk result (λ held. count ≤ held.kept) }
+        ensures synced { IfOk result (λ held. held.how ≡ Synced) }
+        ensures patient { IfErr result (λ fault. fault ≢ OutOfMemory) }
+    {
+        self.keep_as(rt, house, count, Durability::Synced)
+    }
+
+    // What an answer waits for.
+    fn durability(&self) -> Durability
+        ensures { as_nanos self.now.pause ≡ 0 → result ≡ Synced }
+    {
+        if self.pause.is_zero() {
+            Durability::Synced
+        } else {
+            Durability::Written
+        }
+    }
+
+    // Returns once so many of all commands are kept in this way.
+    fn keep_as<R: Wait + Clock, D: LoopDesk, B: Beginning>(
+        &self,
+        rt: &R,
+        house: &Mutex<House<D, B>>,
+        count: u64,
+        durability: Durability,
+    ) -> Result<Held, ServeFault>
+        ensures kept { IfOk result (λ held. count ≤ held.kept) }
+        ensures how { IfOk result (λ held. held.how ≡ durability) }
+        ensures patient { IfErr result (λ fault. fault ≢ OutOfMemory) }
+    {
         let mut writing = self.writing.lock(rt);
         let mut backoff = Backoff::new(FIRST_PAUSE);
         for _ in rt.forever() {
-            if writing.journal.kept() >= count {
-                return Ok(());
+            let held = writing.held(durability);
+            if held.kept.upto() >= count {
+                return Ok(held);
             }
-            match writing.keep_next(rt, house) {
+            match writing.keep_next(rt, house, durability) {
                 Ok(()) => {}
                 Err(ServeFault::OutOfMemory) => sleep(rt, backoff.next_pause()),
                 Err(fault) => {
@@ -89,24 +140,79 @@ impl SharedLog {
     }
 }
 
+/// What has become of a command that is kept.
+#[derive(Clone, Copy, Debug, PartialEq, Eq)]
+pub(crate) enum Durability {
+    /// It is written to the log's file. A power cut may still lose it.
+    Written,
+    /// It is synced.
+    Synced,
+}
+
+/// That so many of all commands are kept, and how.
+#[derive(Clone, Copy, Debug, PartialEq, Eq)]
+pub(crate) struct Held {
+    pub(crate) kept: Kept,
+    pub(crate) how: Durability,
+}
+
 impl Writing {
-    // Keeps what waits, or else what has taken effect since.
-    fn keep_next<R: Wait, D: LoopDesk>(
+    // How many commands are kept in this way.
+    fn held(&self, durability: Durability) -> Held
+        ensures how { result.how ≡ durability }
+        ensures synced { durability ≡ Synced → result.kept ≡ self.now.journal.synced }
+        ensures written { durability ≡ Written → result.kept ≡ self.now.journal.written }
+    {
+        let kept = match durability {
+            Durability::Written => self.journal.written(),
+            Durability::Synced => self.journal.synced(),
+        };
+        Held {
+            kept,
+            how: durability,
+        }
+    }
+
+    // What has taken effect since comes next in the log.
+    fn take_up<D: LoopDesk, B: Beginning>(
+        &mut self,
+        house: &mut House<D, B>,
+    ) -> Result<(), AllocError>
+        requires idle { self.old.journal.waiting ≡ [] }
+        ensures all { OnOk result (self.new.journal.waiting ≡ D.placed house.old) }
+        ensures counted { OnOk result (self.new.journal.due
+            ≡ min (self.old.journal.due + length (D.placed house.old)) (2 ^ 64 - 1)) }
+    {
+        let placed = house.take_placed()?;
+        self.journal.put(placed);
+        Ok(())
+    }
+
+    // Keeps what waits, with what has taken effect since, where nothing waited.
+    fn keep_next<R: Wait, D: LoopDesk, B: Beginning>(
         &mut self,
         rt: &R,
-        house: &Mutex<House<D>>,
+        house: &Mutex<House<D, B>>,
+        durability: Durability,
     ) -> Result<(), ServeFault> {
         if let Some(fault) = self.fault {
             return Err(fault);
         }
         if self.journal.is_idle() {
             let mut house = house.lock(rt);
-            let count = house.desk.placed_count();
-            let placed = house.desk.take_placed();
-            self.journal
-                .put(placed.map_err(|_| ServeFault::OutOfMemory)?, count);
+            self.take_up(&mut house)?;
         }
-        self.journal.keep().map_err(fault_of)
+        let before = self.held(durability);
+        match durability {
+            Durability::Written => self.journal.write(),
+            Durability::Synced => self.journal.keep(),
+        }
+        .map_err(fault_of)?;
+        if self.held(durability) == before {
+            // somebody waits for a command that the hall doesn't have
+            return Err(ServeFault::BadNumber);
+        }
+        Ok(())
     }
 }
 
@@ -114,11 +220,6 @@ impl Writing {
 fn fault_of(fault: JournalFault) -> ServeFault {
     match fault {
         JournalFault::OutOfMemory => ServeFault::OutOfMemory,
-        JournalFault::Unkept(KeepFault::WriteFailed(_) | KeepFault::HasFailed) => {
-            ServeFault::WriteFailed
-        }
-        JournalFault::TooLong | JournalFault::Unkept(KeepFault::SyncFailed(_)) => {
-            ServeFault::SyncFailed
-        }
+        JournalFault::TooLong | JournalFault::Unkept(_) => ServeFault::LogFailed(fault),
     }
 }

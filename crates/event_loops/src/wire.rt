@@ -1,17 +1,15 @@
+use crate::stream::Stream;
 use conversation::{Link, Pause};
-use mio::net::TcpStream;
-use std::io::{ErrorKind, Read, Write};
+use std::io::ErrorKind;
 
-/// A client's connection over TCP, which never waits.
+/// A client's link over a connection that never waits.
 #[derive(Drop)]
-pub(crate) struct Wire(pub(crate) TcpStream);
+pub struct Wire<S: Stream>(pub S);
 
-impl Link for Wire {
-    ghost use Rattle.std.specs.Prelude.{None};
+impl<S: Stream> Link for Wire<S> {
+    ghost taken = { λ wire. S.taken wire.0 };
 
-    ghost taken = { λ _. None };
-
-    ghost given = { λ _. None };
+    ghost given = { λ wire. S.given wire.0 };
 
     fn read(&mut self, buf: &mut [u8]) -> Result<usize, Pause> {
         for _ in 0..u64::MAX {

@@ -215,6 +215,9 @@ module _ {O Op Reply : Type 0} (h : ForgettingState Op O Reply) where
     there : (not (session == 0) ≡ true) × (is_some (get h.summary.clients session) ≡ true)
     there = both (not (session == 0)) (is_some (get h.summary.clients session)) (both (not (is_tick act)) (is_session h session) left.1).1
 
+    pub submit_session : 0 < session
+    submit_session = not_clock session there.0
+
     pub submit_next : IsNextOf h.summary (next_of h session act)
     submit_next = next_from session (get h.summary.clients session) refl there.1 act
 
@@ -316,6 +319,13 @@ module _ {O Op Reply : Type 0} (h : ForgettingState Op O Reply) (c : Command Op)
   pub keyed_low : c.key.number ≤ 2 ^ 61 + h.taken + 1
   keyed_low = let low = most_when c.key.number (2 ^ 61) parts.2 in omega (arith, low)
 
+  -- a second of the clock is greater than the last one
+  pub keyed_second : c.key.session ≡ 0 → second_of h ≤ c.key.number
+  keyed_second e =
+      let low = above_when (last_number_of h c.key.session) c.key.number parts.1 in
+      let same : last_number_of h c.key.session ≡ second_of h = ap (last_number_of h) e in
+      omega (arith, low, same)
+
   pub keyed_next : IsNextOf h.summary c
   keyed_next =
       let client = some_there (get h.summary.clients c.key.session) parts.0 in
@@ -335,3 +345,12 @@ reply_in_order {Op = Op} {Reply = Reply} rules promise h session replies w c rep
     at None e = absurd (none_some (sym (ap last_of_client e) ∙ last))
     at (Some client) e = replies (rest_of_hall rules h) w session client c reply i s e
         (sym (ap last_of_client e) ∙ last) (sym (ap reply_of_client e) ∙ told)
+
+-- no number comes near the greatest one
+pub number_low : {O Op Reply : Type 0} {rules : Rules O Op Reply} (h : ForgettingState Op O Reply) → IsForgettingHall rules h → (session : ℕ)
+    → last_number_of h session < 2 ^ 62
+number_low h is session =
+    let low = number_below h is.counted session in
+    let few = is.shown.1.few in
+    let taken = is.shown.2.taken in
+    omega (arith, low, few, taken)

@@ -1,10 +1,12 @@
 -- What is handed in to a hall that forgets.
-use Rattle.std.specs.Prelude.{ℕ, ◌+◌, if◌then◌else◌, Option, None, Some}
+use Rattle.std.specs.Prelude.{ℕ, ◌+◌, Bool, false, if◌then◌else◌, Option, None, Some}
 use Rattle.std.specs.FinMap.{get}
+use Rattle.object.specs.Keys.{same_key}
 use Rattle.object.specs.Objects.{Rules}
 use Rattle.object.specs.OnceOnly.{is_later}
 use Rattle.object.specs.declared.command.Act.{Act}
 use Rattle.object.specs.declared.command.Command.{Command}
+use Rattle.object.specs.declared.command.Key.{Key}
 use Rattle.node.specs.declared.deed.Deed.TheVariants.{Request}
 use Rattle.lean_network.specs.LeanNetworks.{LeanState, object_of, acted_lean}
 use Rattle.client_table.specs.Clients.{number_of_last}
@@ -32,6 +34,15 @@ reply_of_client (Some client) = client.reply
 -- and to a session's last command, where it was given
 abbrev pub reply_of : {Op O Reply : Type 0} → ForgettingState Op O Reply → ℕ → Option Reply
 reply_of h session = reply_of_client (get h.summary.clients session)
+
+-- the command, where there is one, has this key
+abbrev pub has_key : {Op : Type 0} → Key → Option (Command Op) → Bool
+has_key key None = false
+has_key key (Some c) = same_key c.key key
+
+-- the reply to the command of this key, where it is the last one of its session and was answered
+abbrev pub reply_to : {Op O Reply : Type 0} → ForgettingState Op O Reply → Key → Option Reply
+reply_to h key = if has_key key (last_of h key.session) then reply_of h key.session else None
 
 -- the number of the last command, 0 where there is none
 abbrev pub last_number_of : {Op O Reply : Type 0} → ForgettingState Op O Reply → ℕ → ℕ

@@ -1,6 +1,6 @@
 -- One thing is found of a text.
-use Rattle.std.proofs.Common.{◌≡◌, ◌∙◌, inl, inr, ℕ, ◌+◌, ◌<◌, ◌≤◌, List, [], ◌∷◌, ◌++◌, length, drop, codes, arith}
-use Rattle.std.proofs.Common.{sym, ap, ap₂, subst, append_assoc, append-nil, length-append, take-append-drop}
+use Rattle.std.proofs.Common.{◌≡◌, ◌∙◌, inl, inr, ℕ, ◌+◌, ◌<◌, ◌≤◌, List, [], ◌∷◌, ◌++◌, length, drop, arith}
+use Rattle.std.proofs.Common.{sym, ap, ap₂, subst, append-nil, length-append, take-append-drop}
 use Rattle.std.proofs.lemmas.List.{drop_at}
 use Rattle.object.specs.Lists.{IsBeginning}
 use Rattle.object.specs.declared.command.Command.{Command}
@@ -15,10 +15,10 @@ use Rattle.chronicle_text.specs.Values.{IsChronicleValue}
 use Rattle.chronicle.specs.declared.check_fault.What.{What}
 use Rattle.command_log.specs.declared.faults.LogFault.{LogFault}
 use Rattle.command_log.specs.declared.faults.LogFault.TheVariants.{Unbegun, BadHead, Damaged}
+use Rattle.command_log.specs.declared.version.LogVersion.{LogVersion}
 use Rattle.command_log.specs.declared.whole.Whole.{Whole}
 use Rattle.command_log.specs.Faults.{IsLogFault}
-use Rattle.command_log.specs.Lines.{IsLogLine}
-use Rattle.command_log.specs.Reading.{HasRightLine, IsDamagedAt, IsLineStart, IsWholeLog}
+use Rattle.command_log.specs.Reading.{HasRightLine, IsDamagedAt, IsWholeLog}
 use Rattle.command_log.specs.Text.{log_text}
 use Rattle.log_file.specs.Logs.{BeginsWithLog, IsBehind}
 use Rattle.inspection.specs.Verdicts.{BeginsAsLog, CountsLog, IsDamagedLog, IsDumpVerdict, IsLogVerdict, IsVerdict, IsVerdictOn, IsVerdictOnDump}
@@ -28,70 +28,67 @@ use Rattle.inspection.specs.declared.verdict.Verdict.TheVariants.{Legal, BadLine
 -- ---- a log in front of a text
 
 in_front : (text : List ℕ) (whole : Whole) (commands : List (Command Op)) → IsWholeLog text whole commands
-    → BeginsWithLog text whole.members commands
+    → BeginsWithLog text whole.version whole.members commands
 in_front text whole commands h = record {
   members_ok = h.log.members;
   logged = h.log.logged;
   begins = (drop whole.bytes text, sym (take-append-drop whole.bytes text) ∙ ap (λ t. t ++ drop whole.bytes text) h.begins);
 }
 
-before_damage : (n : ℕ) (text : List ℕ) (h : IsDamagedAt n text) → BeginsWithLog text h.weights h.commands
+before_damage : (n : ℕ) (text : List ℕ) (h : IsDamagedAt n text) → BeginsWithLog text h.version h.weights h.commands
 before_damage n text h = record { members_ok = h.members; logged = h.logged; begins = (h.wrong ++ h.rest, h.cut) }
-
-start_behind : (line more : List ℕ) → IsLogLine line → IsLineStart more → IsLineStart (line ++ more)
-start_behind line more is (inl none) = inr (is.said, ap (λ t. line ++ t) none ∙ append-nil line ∙ is.is)
-start_behind line more is (inr (front, end)) = inr (line ++ front, ap (λ t. line ++ t) end ∙ sym (append_assoc line front (codes "\n")))
-
-right_behind : (line more : List ℕ) → IsLogLine line → HasRightLine more → HasRightLine (line ++ more)
-right_behind line more is h = record {
-  before = line ++ h.before;
-  command = h.command;
-  rest = h.rest;
-  logged = h.logged;
-  starts = start_behind line h.before is h.starts;
-  cut = ap (λ t. line ++ t) h.cut ∙ sym (append_assoc line h.before _);
-}
 
 both_begin : (xs ys : List (Command Op)) → IsBeginning xs ys → length ys ≤ length xs → xs ≡ ys
 both_begin xs ys ([], e) few = sym (e ∙ append-nil xs)
 both_begin xs ys (y ∷ more, e) few =
     let long = ap length e ∙ length-append xs (y ∷ more) in absurd (omega arith)
 
+-- two logs that are alike have one text
+alike : (a b : LogVersion) (v w : List ℕ) (cs ds : List (Command Op)) → a ≡ b → v ≡ w → cs ≡ ds → log_text a v cs ≡ log_text b w ds
+alike a b v w cs ds version members commands =
+    ap (λ n. log_text n v cs) version ∙ ap₂ (λ x y. log_text b x y) members commands
+
 module _
-    (kept : (text members : List ℕ) (kept read : List (Command Op)) (whole : Whole)
-    → BeginsWithLog text members kept → IsWholeLog text whole read → (whole.members ≡ members) × IsBeginning kept read)
-    (behind : (text members : List ℕ) (kept : List (Command Op)) (fault : LogFault)
-    → BeginsWithLog text members kept → IsLogFault text fault → IsBehind (length kept) fault)
+    (kept : (text : List ℕ) (version : LogVersion) (members : List ℕ) (kept read : List (Command Op)) (whole : Whole)
+    → BeginsWithLog text version members kept → IsWholeLog text whole read
+    → (whole.version ≡ version) × (whole.members ≡ members) × IsBeginning kept read)
+    (behind : (text : List ℕ) (version : LogVersion) (members : List ℕ) (kept : List (Command Op)) (fault : LogFault)
+    → BeginsWithLog text version members kept → IsLogFault text fault → IsBehind (length kept) fault)
   where
     -- a text in front of which a log stands whole has no wrong line
     no_damage : (text : List ℕ) (whole : Whole) (read : List (Command Op)) (n : ℕ) → IsWholeLog text whole read → IsDamagedAt n text → ⊥
     no_damage text whole read n h damaged =
-        let same = kept text damaged.weights damaged.commands read whole (before_damage n text damaged) h in
-        let far : length read + 1 < n = behind text whole.members read (Damaged n) (in_front text whole read h) damaged in
+        let same = kept text damaged.version damaged.weights damaged.commands read whole (before_damage n text damaged) h in
+        let far : length read + 1 < n = behind text whole.version whole.members read (Damaged n) (in_front text whole read h) damaged in
         let number = damaged.number in
-        let one : damaged.commands ≡ read = both_begin damaged.commands read same.1 (omega arith) in
-        let said = log_text damaged.weights damaged.commands in
-        let size : length said ≡ whole.bytes = ap length (ap₂ log_text (sym same.0) one) ∙ sym h.log.bytes in
+        let one : damaged.commands ≡ read = both_begin damaged.commands read same.2 (omega arith) in
+        let said = log_text damaged.version damaged.weights damaged.commands in
+        let size : length said ≡ whole.bytes =
+        ap length (alike damaged.version whole.version damaged.weights whole.members damaged.commands read (sym same.0) (sym same.1) one)
+        ∙ sym h.log.bytes in
         let left : drop whole.bytes text ≡ damaged.wrong ++ damaged.rest =
         ap (drop whole.bytes) damaged.cut ∙ drop_at said (damaged.wrong ++ damaged.rest) whole.bytes size in
-        h.ends (subst HasRightLine (sym left) (right_behind damaged.wrong damaged.rest damaged.is_wrong.is_line damaged.later))
+        h.ends (subst HasRightLine (sym left) damaged.later)
 
     one_begun : (text : List ℕ) (n m a b : ℕ) → BeginsAsLog text n a → BeginsAsLog text m b → (n ≡ m) × (a ≡ b)
     one_begun text n m a b is other =
-        let there = kept text is.whole.members is.commands other.commands other.whole (in_front text is.whole is.commands is.log) other.log in
-        let back = kept text other.whole.members other.commands is.commands is.whole (in_front text other.whole other.commands other.log) is.log in
-        let more = ap length there.1.1 ∙ length-append is.commands there.1.0 in
-        let one = both_begin is.commands other.commands there.1
-        (let e = ap length back.1.1 ∙ length-append other.commands back.1.0 in omega arith) in
-        let bytes : is.whole.bytes ≡ other.whole.bytes =
-        is.log.log.bytes ∙ ap length (ap₂ log_text (sym there.0) one) ∙ sym other.log.log.bytes in
+        let w = is.whole in
+        let v = other.whole in
+        let there = kept text w.version w.members is.commands other.commands v (in_front text w is.commands is.log) other.log in
+        let back = kept text v.version v.members other.commands is.commands w (in_front text v other.commands other.log) is.log in
+        let more = ap length there.2.1 ∙ length-append is.commands there.2.0 in
+        let one = both_begin is.commands other.commands there.2
+        (let e = ap length back.2.1 ∙ length-append other.commands back.2.0 in omega arith) in
+        let bytes : w.bytes ≡ v.bytes =
+        is.log.log.bytes ∙ ap length (alike w.version v.version w.members v.members is.commands other.commands (sym there.0) (sym there.1) one)
+        ∙ sym other.log.log.bytes in
         let left = is.left in
         let rest = other.left in
         (is.counted ∙ ap length one ∙ sym other.counted, omega arith)
 
     -- a log stands there, or it isn't begun
     not_begun : (text : List ℕ) (n a : ℕ) → BeginsAsLog text n a → IsLogFault text Unbegun → ⊥
-    not_begun text n a is h = behind text is.whole.members is.commands Unbegun (in_front text is.whole is.commands is.log) h
+    not_begun text n a is h = behind text is.whole.version is.whole.members is.commands Unbegun (in_front text is.whole is.commands is.log) h
 
     one_held : (text : List ℕ) (n m a b : ℕ) → CountsLog text n a → CountsLog text m b → (n ≡ m) × (a ≡ b)
     one_held text n m a b (inl is) (inl other) = one_begun text n m a b is other
@@ -101,20 +98,20 @@ module _
 
     one_damage : (text : List ℕ) (n m : ℕ) → IsDamagedLog text n → IsDamagedLog text m → n ≡ m
     one_damage text n m (inl is) (inl other) =
-        let there : length is.commands + 1 < m = behind text is.weights is.commands (Damaged m) (before_damage n text is) other in
-        let back : length other.commands + 1 < n = behind text other.weights other.commands (Damaged n) (before_damage m text other) is in
+        let there : length is.commands + 1 < m = behind text is.version is.weights is.commands (Damaged m) (before_damage n text is) other in
+        let back : length other.commands + 1 < n = behind text other.version other.weights other.commands (Damaged n) (before_damage m text other) is in
         let first = is.number in
         let second = other.number in
         omega arith
-    one_damage text n m (inl is) (inr (bad, line)) = absurd (behind text is.weights is.commands BadHead (before_damage n text is) bad)
-    one_damage text n m (inr (bad, line)) (inl other) = absurd (behind text other.weights other.commands BadHead (before_damage m text other) bad)
+    one_damage text n m (inl is) (inr (bad, line)) = absurd (behind text is.version is.weights is.commands BadHead (before_damage n text is) bad)
+    one_damage text n m (inr (bad, line)) (inl other) = absurd (behind text other.version other.weights other.commands BadHead (before_damage m text other) bad)
     one_damage text n m (inr (bad, line)) (inr (again, same)) = line ∙ sym same
 
     not_held : (text : List ℕ) (n a m : ℕ) → CountsLog text n a → IsDamagedLog text m → ⊥
     not_held text n a m (inl is) (inl damaged) = no_damage text is.whole is.commands m is.log damaged
-    not_held text n a m (inl is) (inr (bad, line)) = behind text is.whole.members is.commands BadHead (in_front text is.whole is.commands is.log) bad
+    not_held text n a m (inl is) (inr (bad, line)) = behind text is.whole.version is.whole.members is.commands BadHead (in_front text is.whole is.commands is.log) bad
     not_held text n a m (inr (unbegun, none, all)) (inl damaged) =
-        behind text damaged.weights damaged.commands Unbegun (before_damage m text damaged) unbegun
+        behind text damaged.version damaged.weights damaged.commands Unbegun (before_damage m text damaged) unbegun
     not_held text n a m (inr (unbegun, none, all)) (inr (bad, line)) = bad.not_begun unbegun
 
     pub one_log_verdict : (text : List ℕ) (v w : Verdict) → IsLogVerdict text v → IsLogVerdict text w → v ≡ w

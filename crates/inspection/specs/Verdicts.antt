@@ -41,7 +41,7 @@ IsDumpVerdict text (At n what) = IsVerdictOnDump text (At n what)
 IsDumpVerdict text (Log commands behind) = ⊥
 IsDumpVerdict text (LogDamaged n) = ⊥
 
--- a log of so many commands stands at the text's beginning, and so many bytes behind it, none of which is a line of a log
+-- a log of so many commands stands at the text's beginning, and so many bytes behind it, where no right line stands
 pub record BeginsAsLog (text : List ℕ) (count behind : ℕ) : Type 0 where
   pub whole : Whole
   pub commands : List (Command Op)
@@ -53,7 +53,7 @@ pub record BeginsAsLog (text : List ℕ) (count behind : ℕ) : Type 0 where
 abbrev pub CountsLog : List ℕ → ℕ → ℕ → Type 0
 CountsLog text count behind = BeginsAsLog text count behind ⊎ (IsLogFault text log.Unbegun × (count ≡ 0) × (behind ≡ length text))
 
--- its first wrong line, behind which stands a right one; or the first line, where that is no head
+-- the first line that doesn't go on with it, where a right one stands there or behind; or line 1, where that is no head
 abbrev pub IsDamagedLog : List ℕ → ℕ → Type 0
 IsDamagedLog text n = IsLogFault text (log.Damaged n) ⊎ (IsLogFault text log.BadHead × (n ≡ 1))
 

@@ -23,7 +23,7 @@ pub enum Verdict {
         commands: u64,
         behind: u64,
     },
-    /// This is the first wrong line of a log. It is no head, or a right one stands behind it.
+    /// This is the first line that doesn't go on with a log. It is no head, or a right one stands there or behind it.
     LogDamaged(u64),
 }
 

@@ -3,6 +3,8 @@
 
 mod fault;
 mod journal;
+mod kept;
 
 pub use fault::JournalFault;
 pub use journal::Journal;
+pub use kept::Kept;

@@ -1,6 +1,6 @@
 -- A log that is read in pieces, and what is told of it at the end.
 use Rattle.std.proofs.Common.{◌≡◌, ℕ, ◌+◌, ◌-◌, ◌<◌, ◌≤◌, ◌^◌, List, [], ◌++◌, length}
-use Rattle.std.proofs.Common.{Option, Result, Ok, Err, IfOk, IfErr, refl, ap, subst, arith}
+use Rattle.std.proofs.Common.{Option, Result, Ok, Err, IfOk, IfErr, refl, sym, ap, subst, arith}
 use Rattle.std.proofs.Common.{append-nil, length-append, length-take}
 use Rattle.std.proofs.KnownBytes.{Consumes-nil, Consumes-trans}
 use Rattle.std.specs.Io.KnownBytes.{Consumes, IsAtEnd}
@@ -23,8 +23,12 @@ pub record IsReadTo (before after : Option (List ℕ)) (log : LogReader) (comman
   pub count : bytes ≡ length text
   pub consumed : Consumes before after text
 
-pub starts : (before : Option (List ℕ)) (log : LogReader) → HasRead log [] [] → IsReadTo before before log [] 0
+starts : (before : Option (List ℕ)) (log : LogReader) → HasRead log [] [] → IsReadTo before before log [] 0
 starts before log read = record { text = []; read = read; count = refl; consumed = Consumes-nil before }
+
+pub started : (before : Option (List ℕ)) (log : LogReader) (commands : List (Command Op)) → commands ≡ [] → HasRead log [] []
+    → IsReadTo before before log commands 0
+started before log commands none read = subst (λ c. IsReadTo before before log c 0) (sym none) (starts before log read)
 
 pub goes_on : (before at after : Option (List ℕ)) (log next : LogReader) (old new : List (Command Op)) (bytes more : ℕ) (piece : List ℕ)
     → IsReadTo before at log old bytes → Consumes at after piece → more ≡ bytes + length piece → more < 2 ^ 64 → ReadsOn log old piece next new

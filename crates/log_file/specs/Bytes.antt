@@ -1,5 +1,5 @@
 -- What a writer has taken of some bytes.
-use Rattle.std.specs.Prelude.{◌≡◌, ◌<◌, ℕ, List, length, Option, None, Some, ⊤, Result, MatchResult, take}
+use Rattle.std.specs.Prelude.{◌≡◌, ◌<◌, ◌+◌, ◌-◌, ◌^◌, ℕ, min, List, length, Option, None, Some, ⊤, Result, MatchResult, take}
 use Rattle.std.specs.Io.KnownBytes.{Appends}
 
 -- known bytes grow by a beginning of these
@@ -19,3 +19,7 @@ abbrev pub CutsTo : Option (List ℕ) → Option (List ℕ) → ℕ → Type 0
 CutsTo None new n = ⊤
 CutsTo (Some xs) None n = ⊥
 CutsTo (Some xs) (Some ys) n = ys ≡ take n xs
+
+-- a count of bytes with these; a file has fewer than 2^64
+abbrev pub grown : ℕ → List ℕ → ℕ
+grown len bytes = min (len + length bytes) (2 ^ 64 - 1)

@@ -1,12 +1,12 @@
 -- Why a command isn't noted, and why no log is read.
-use Rattle.std.specs.Prelude.{◌≡◌, ℕ, ◌≤◌, ◌<◌, ◌^◌, Bool, true, false, ⊤, List, length, Option}
+use Rattle.std.specs.Prelude.{◌≡◌, ◌≢◌, ℕ, ◌≤◌, ◌<◌, ◌^◌, Bool, true, false, ⊤, List, length, Option, IfSome}
 use Rattle.object.specs.declared.command.Command.{Command}
 use Rattle.bean_words.specs.declared.op.Op.{Op}
 use Rattle.command_log.specs.declared.faults.WriteFault.{WriteFault}
 use Rattle.command_log.specs.declared.faults.WriteFault.TheVariants as write
-use Rattle.command_log.specs.declared.line.TheConstants.{MAX_LINE}
+use Rattle.command_log.specs.declared.line.TheConstants.{MAX_WORDS}
 use Rattle.command_log.specs.Faults.{IsLogFault}
-use Rattle.command_log.specs.Text.{line_of_command}
+use Rattle.command_log.specs.Text.{command_words}
 use Rattle.std.specs.Io.KnownBytes.{Appends}
 use Rattle.log_file.specs.Bytes.{AppendsPart}
 use Rattle.log_file.specs.declared.faults.KeepFault.{KeepFault}
@@ -25,7 +25,7 @@ note_fault_of write.TooLong = note.TooLong
 -- what a fault says of the log, which has failed or not, and of the command
 abbrev pub IsNoteFault : Bool → Command Op → NoteFault → Type 0
 IsNoteFault has_failed c note.OutOfMemory = has_failed ≡ false
-IsNoteFault has_failed c note.TooLong = (has_failed ≡ false) × (MAX_LINE < length (line_of_command c))
+IsNoteFault has_failed c note.TooLong = (has_failed ≡ false) × (MAX_WORDS < length (command_words c))
 IsNoteFault has_failed c note.HasFailed = has_failed ≡ true
 
 -- what a fault says of the bytes that a writer held before and after the batch: a part of the batch was written, or all of it, or
@@ -33,7 +33,22 @@ IsNoteFault has_failed c note.HasFailed = has_failed ≡ true
 abbrev pub IsKeepFault : Option (List ℕ) → Option (List ℕ) → List ℕ → KeepFault → Type 0
 IsKeepFault before after batch (keep.WriteFailed e) = AppendsPart before after batch
 IsKeepFault before after batch (keep.SyncFailed e) = Appends before after batch
+IsKeepFault before after batch keep.Changed = Appends before after batch
 IsKeepFault before after batch keep.HasFailed = after ≡ before
+
+-- what a fault of a write alone says of these bytes
+abbrev pub IsOfWriting : Option (List ℕ) → Option (List ℕ) → List ℕ → KeepFault → Type 0
+IsOfWriting before after batch (keep.WriteFailed e) = AppendsPart before after batch
+IsOfWriting before after batch (keep.SyncFailed e) = ⊥
+IsOfWriting before after batch keep.Changed = ⊥
+IsOfWriting before after batch keep.HasFailed = after ≡ before
+
+-- what a fault of a sync says of the bytes that the writer holds, which should be so many
+abbrev pub IsOfSyncing : Option (List ℕ) → ℕ → KeepFault → Type 0
+IsOfSyncing contents len (keep.WriteFailed e) = ⊥
+IsOfSyncing contents len (keep.SyncFailed e) = ⊤
+IsOfSyncing contents len keep.Changed = IfSome contents (λ held. length held ≢ len)
+IsOfSyncing contents len keep.HasFailed = ⊤
 
 -- a read failed
 abbrev pub IsOfReading : ReadFault → Type 0

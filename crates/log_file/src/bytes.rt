@@ -1,33 +1,38 @@
-ghost use Rattle.std.specs.Prelude.{◌≡◌, ◌<◌, ℕ, List, IfOk, IfErr, IsErrOf, OnOk, OnErr, length};
+ghost use Rattle.std.specs.Prelude.{◌≡◌, ◌<◌, ℕ, List, IfOk, IfErr, IfSome, IsErrOf, OnOk, OnErr, length};
 ghost use Rattle.std.specs.Io.{ReadsAtMost, WritesAtMost};
 ghost use Rattle.std.specs.Io.KnownBytes.{Keeps, ReadConsumes, WriteAppends};
 ghost use Rattle.log_file.specs.Bytes.{AppendsPart, WritesAll};
-ghost use Rattle.log_file.specs.Faults.{IsKeepFault, IsOfReading};
+ghost use Rattle.log_file.specs.Faults.{IsOfReading, IsOfSyncing};
 
 use crate::durable::Durable;
 use crate::faults::{KeepFault, ReadFault};
 use std::io;
 use std::io::{ErrorKind, Read, Write};
 
-/// Writes all the bytes and keeps them, or fails after some first ones.
-pub(crate) fn write_and_sync<W: Durable>(writer: &mut W, bytes: &[u8]) -> Result<(), KeepFault>
-    ensures written { WritesAll (W.contents writer.old) (W.contents writer.new) bytes.now result }
-    ensures kept { OnOk result (Keeps (W.contents writer.new) (W.kept writer.new)) }
-    ensures fault { IfErr result (IsKeepFault (W.contents writer.old) (W.contents writer.new) bytes.now) }
-    ensures tried { IsErrOf result KeepFault.HasFailed → ⊥ }
-{
-    write_all(writer, bytes).map_err(KeepFault::WriteFailed)?;
-    writer.sync().map_err(KeepFault::SyncFailed)
-}
-
-// Writes all the bytes, or fails after some first ones.
-fn write_all<W: Write>(writer: &mut W, bytes: &[u8]) -> io::Result<()>
+/// Writes all the bytes, or fails after some first ones.
+pub(crate) fn write_all<W: Write>(writer: &mut W, bytes: &[u8]) -> io::Result<()>
     ensures written { WritesAll (W.contents writer.old) (W.contents writer.new) bytes.now result }
     ensures part { OnErr result (AppendsPart (W.contents writer.old) (W.contents writer.new) bytes.now) }
 {
     let mut written = 0;
     while written < bytes.len() {
         written += write_some(writer, &bytes[written..])?;
+    }
+    Ok(())
+}
+
+/// Keeps all that was written, and looks whether the writer holds so many bytes.
+pub(crate) fn sync_all<W: Durable>(writer: &mut W, len: u64) -> Result<(), KeepFault>
+    ensures bytes { Keeps (W.contents writer.old) (W.contents writer.new) }
+    ensures kept { OnOk result (Keeps (W.contents writer.new) (W.kept writer.new)) }
+    ensures held { OnOk result (IfSome (W.contents writer.new) (λ held. length held ≡ len)) }
+    ensures fault { IfErr result (IsOfSyncing (W.contents writer.new) len) }
+    ensures tried { IsErrOf result KeepFault.HasFailed → ⊥ }
+{
+    writer.sync().map_err(KeepFault::SyncFailed)?;
+    let size = writer.size().map_err(KeepFault::SyncFailed)?;
+    if size != len {
+        return Err(KeepFault::Changed);
     }
     Ok(())
 }

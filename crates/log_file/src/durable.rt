@@ -15,6 +15,10 @@ pub trait Durable: Write {
     fn sync(&mut self) -> io::Result<()>
         ensures bytes { Keeps (Self.contents self.old) (Self.contents self.new) }
         ensures kept { OnOk result (Keeps (Self.contents self.new) (kept self.new)) };
+
+    /// How many bytes it holds.
+    fn size(&self) -> io::Result<u64>
+        ensures { IfOk result (λ n. IfSome (Self.contents self.now) (λ held. n ≡ length held)) };
 }
 
 impl Durable for File {
@@ -25,14 +29,14 @@ impl Durable for File {
     fn sync(&mut self) -> io::Result<()> {
         self.sync_data()
     }
+
+    fn size(&self) -> io::Result<u64> {
+        Ok(self.metadata()?.len())
+    }
 }
 
 /// A writer whose bytes can be cut off behind a length.
 pub(crate) trait Cuttable: Durable {
-    /// How many bytes it holds.
-    fn size(&self) -> io::Result<u64>
-        ensures { IfOk result (λ n. IfSome (Self.contents self.now) (λ held. n ≡ length held)) };
-
     /// Cuts off what stands behind so many bytes, and returns once these are kept, or fails.
     fn cut(&mut self, bytes: u64) -> io::Result<()>
         ensures bytes { OnOk result (CutsTo (Self.contents self.old) (Self.contents self.new) bytes) }
@@ -40,10 +44,6 @@ pub(crate) trait Cuttable: Durable {
 }
 
 impl Cuttable for File {
-    fn size(&self) -> io::Result<u64> {
-        Ok(self.metadata()?.len())
-    }
-
     fn cut(&mut self, bytes: u64) -> io::Result<()> {
         self.set_len(bytes)?;
         self.sync_all()

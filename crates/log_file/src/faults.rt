@@ -38,6 +38,9 @@ pub enum KeepFault {
     WriteFailed(io::Error),
     #[error("sync failed: {0}")]
     SyncFailed(io::Error),
+    /// All was written, but what it was written to has more bytes or fewer than the log.
+    #[error("the log was changed by another")]
+    Changed,
     /// A write or a sync failed before, and nothing was tried.
     #[error("the log has failed")]
     HasFailed,
@@ -77,6 +80,9 @@ pub enum OpenFault {
     /// Another server has the log.
     #[error("another server has the log")]
     Locked,
+    /// It is a folder, a pipe or a device.
+    #[error("not a regular file")]
+    NotAFile,
     #[error("the file failed: {0}")]
     FileFailed(io::Error),
     /// The file is left as it is.

@@ -1,6 +1,10 @@
-ghost use Rattle.std.specs.Prelude.{◌≡◌, ◌+◌, ℕ, List, [], length, Some, IfOk};
+ghost use Rattle.std.specs.Prelude.{◌≡◌, ◌↔◌, ◌+◌, ℕ, List, [], length, Some, IsOk, IfOk};
+ghost use Rattle.std.specs.Fs.{IsFile, file_type};
 ghost use Rattle.std.specs.Io.KnownBytes.{Keeps};
 ghost use Rattle.command_log.specs.Reading.{IsWholeLog};
+ghost use Rattle.command_log.specs.Text.{head_line};
+ghost use Rattle.command_log.specs.declared.version.LogVersion.TheVariants.{Two};
+ghost use Rattle.log_file.specs.Bytes.{grown};
 ghost use Rattle.log_file.specs.Logs.{HoldsLog};
 ghost use Rattle.log_file.specs.Opening.{IsReadOf, Opens};
 ghost use Rattle.log_file.specs.States.{IsIdle};
@@ -14,7 +18,7 @@ use bean_words::Op;
 use command_log::LogFault;
 use object::Command;
 use std::alloc::Global;
-use std::fs::{File, OpenOptions, TryLockError};
+use std::fs::{File, Metadata, OpenOptions, TryLockError};
 use std::io;
 use std::os::unix::fs::OpenOptionsExt;
 use std::path::Path;
@@ -42,6 +46,7 @@ pub fn open_log<R: Files<File = File> + AllocGlobal>(
     ensures { IfOk result (λ opened. IsIdle opened.log) }
 {
     let mut file = open_file(rt, path).map_err(OpenFault::FileFailed)?;
+    check_regular(&file.metadata().map_err(OpenFault::FileFailed)?)?;
     lock(&file)?;
     sync_folder(rt, path).map_err(OpenFault::FileFailed)?;
     let read = read_log(rt.alloc(), &mut file);
@@ -59,7 +64,7 @@ fn open_read<W: Cuttable + Drop>(
     ensures idle { IfOk result (λ opened. IsIdle opened.log) }
     ensures opens { IfOk result (λ opened. Opens read members opened.members opened.commands.items opened.cut) }
     ensures holds { IfOk result (λ opened. (text : List ℕ) → W.contents writer ≡ Some text → IsReadOf text read
-        → HoldsLog (W.contents opened.log.writer) [] opened.members opened.commands.items) }
+        → HoldsLog (W.contents opened.log.writer) [] opened.log.chain opened.members opened.commands.items) }
     ensures kept { IfOk result (λ opened. Keeps (W.contents opened.log.writer) (W.kept opened.log.writer)) }
 {
     match read {
@@ -79,9 +84,10 @@ fn go_on<W: Cuttable + Drop>(
     ensures members { IfOk result (λ opened. opened.members ≡ recovered.whole.members) }
     ensures commands { IfOk result (λ opened. opened.commands.items ≡ recovered.commands.items) }
     ensures cut { IfOk result (λ opened. opened.cut ≡ recovered.behind) }
+    ensures len { IfOk result (λ opened. opened.log.len ≡ recovered.whole.bytes) }
     ensures holds { IfOk result (λ opened. (text : List ℕ) → W.contents writer ≡ Some text
         → IsWholeLog text recovered.whole recovered.commands.items
-        → HoldsLog (W.contents opened.log.writer) [] recovered.whole.members recovered.commands.items) }
+        → HoldsLog (W.contents opened.log.writer) [] opened.log.chain recovered.whole.members recovered.commands.items) }
     ensures kept { IfOk result (λ opened. Keeps (W.contents opened.log.writer) (W.kept opened.log.writer)) }
 {
     let mut writer = writer;
@@ -92,7 +98,7 @@ fn go_on<W: Cuttable + Drop>(
     } = recovered;
     writer.cut(whole.bytes).map_err(OpenFault::FileFailed)?;
     Ok(OpenedLog {
-        log: LogWriter::resume(alloc, writer),
+        log: LogWriter::resume(alloc, writer, whole.bytes, whole.chain),
         members: whole.members,
         commands,
         cut: behind,
@@ -109,8 +115,9 @@ fn begin_anew<W: Cuttable + Drop>(
     ensures members { IfOk result (λ opened. opened.members ≡ members) }
     ensures commands { IfOk result (λ opened. opened.commands.items ≡ []) }
     ensures cut { IfOk result (λ opened. (text : List ℕ) → W.contents writer ≡ Some text → opened.cut ≡ length text) }
+    ensures len { IfOk result (λ opened. opened.log.len ≡ grown 0 (head_line Two members)) }
     ensures holds { IfOk result (λ opened. (text : List ℕ) → W.contents writer ≡ Some text
-        → HoldsLog (W.contents opened.log.writer) [] members []) }
+        → HoldsLog (W.contents opened.log.writer) [] opened.log.chain members []) }
     ensures kept { IfOk result (λ opened. Keeps (W.contents opened.log.writer) (W.kept opened.log.writer)) }
 {
     let mut writer = writer;
@@ -132,6 +139,16 @@ fn open_file<R: Files<File = File>>(rt: &R, path: &str) -> io::Result<File> {
     options.read(true).append(true).create(true);
     options.mode(0o600);
     options.open(rt, path)
+}
+
+// A pipe, a device or a folder is no log, and isn't read. A pipe that is opened to be read and written doesn't wait.
+fn check_regular(metadata: &Metadata) -> Result<(), OpenFault>
+    ensures { IsOk result ↔ IsFile (file_type metadata.now) }
+{
+    if !metadata.is_file() {
+        return Err(OpenFault::NotAFile);
+    }
+    Ok(())
 }
 
 // Takes the file's lock, which is let go of where the file is closed.

@@ -16,6 +16,6 @@ mod writer;
 pub use durable::Durable;
 pub use faults::{KeepFault, NoteFault, OpenFault, ReadFault};
 pub use file::{OpenedLog, open_log};
-pub use laws::kept_is_read;
+pub use laws::{kept_is_read, other_head_is_damage, stray_is_damage};
 pub use reader::{Recovered, read_log};
 pub use writer::LogWriter;

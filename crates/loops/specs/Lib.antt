@@ -1,1 +1,4 @@
 pub mod Comparing
+pub mod Taking
+pub mod Desks
+pub mod LeadingLaws

@@ -1,4 +1,4 @@
-ghost use Rattle.std.specs.Prelude.{◌≡◌, [], true, length, sum, All, IfOk, IfSome};
+ghost use Rattle.std.specs.Prelude.{◌≡◌, ◌≤◌, [], true, false, length, sum, All, IfOk, IfSome};
 ghost use Rattle.counted_hall.specs.Marks.{is_free, with_mark};
 ghost use Rattle.hall.specs.Halls.{Agrees};
 
@@ -9,7 +9,7 @@ use event_loops::{LoopDesk, ServeFault};
 use hall::{Hall, HallError, Ticket};
 use object::{Act, Command, Object};
 use std::alloc::{AllocError, Global};
-use turns::{Watch, settle};
+use turns::{Watch, halls_go_on, settle};
 
 /// The desk of a hall that keeps all: where sessions hand in, and where their tickets are compared with the hall at their end.
 #[derive(Drop)]
@@ -25,16 +25,20 @@ pub(crate) struct HallDesk<O: Object> {
     acts: u64,
     /// So many answers were told to the loops.
     told: usize,
-    /// So many commands that took effect were taken.
+    /// There is a log, and so many commands that took effect were taken for it.
+    logs: bool,
     taken: u64,
     ghost marked: { length compared.items ≡ length hall.book },
     ghost counted: { sum hall.book ≡ handed_in },
+    ghost within: { taken ≤ length hall.nodes.past.order },
 }
 
 impl<O: Object> HallDesk<O> {
-    /// A hall in which no session was opened yet.
+    /// A hall in which no session was opened yet, without a log.
     pub(crate) fn new(alloc: Global, hall: Hall<O>) -> HallDesk<O>
         requires none { hall.book ≡ [] }
+        ensures hall { result.hall ≡ hall }
+        ensures logs { result.logs ≡ false }
     {
         HallDesk {
             hall,
@@ -43,18 +47,20 @@ impl<O: Object> HallDesk<O> {
             compared: Vec::new(alloc),
             acts: 0,
             told: 0,
+            logs: false,
             taken: 0,
         }
     }
 
-    /// A hall in which sessions were there before. These tickets of theirs are compared with it. What took effect there
-    /// is not taken, and what was answered is not told.
+    /// A hall in which sessions were there before, with a log, which has all that took effect there. These tickets of
+    /// theirs are compared with it. What was answered is not told.
     pub(crate) fn over(
         alloc: Global,
         hall: Hall<O>,
         tickets: &[Ticket<O>],
     ) -> Result<HallDesk<O>, ServeFault>
         ensures hall { IfOk result (λ desk. desk.hall ≡ hall) }
+        ensures logs { IfOk result (λ desk. desk.logs ≡ true) }
         ensures taken { IfOk result (λ desk. desk.taken ≡ length hall.nodes.past.order) }
         ensures told { IfOk result (λ desk. desk.told ≡ length hall.nodes.past.happenings.answers) }
     {
@@ -69,6 +75,7 @@ impl<O: Object> HallDesk<O> {
             compared,
             acts: 0,
             told,
+            logs: true,
             taken,
         };
         for ticket in tickets {
@@ -85,6 +92,7 @@ impl<O: Object> HallDesk<O> {
         ensures disagrees { ¬ (Agrees self.old.hall ticket.now) →
             (self.new.compared.items ≡ self.old.compared.items) × (self.new.acts ≡ self.old.acts) }
         ensures hall { self.new.hall ≡ self.old.hall }
+        ensures logs { self.new.logs ≡ self.old.logs }
         ensures taken { self.new.taken ≡ self.old.taken }
         ensures told { self.new.told ≡ self.old.told }
     {
@@ -102,6 +110,7 @@ impl<O: Object> HallDesk<O> {
     /// The hall, a mark for each session, set where its ticket agreed with the hall at its end, and how many acts those tickets
     /// have; and whether all agreed, and have as many acts as commands were handed in.
     pub(crate) fn into_hall(self) -> (Hall<O>, Vec<bool>, u64, bool)
+        ensures hall { result.0 ≡ self.hall }
         ensures marked { length result.1.items ≡ length result.0.book }
         ensures agreed { result.3 ≡ true → All (λ mark. mark ≡ true) result.1.items }
         ensures handed_in { result.3 ≡ true → result.2 ≡ sum result.0.book }
@@ -125,14 +134,17 @@ impl<O: Object<Op = Op, Reply = Reply>> Desk for HallDesk<O> {
 
     ghost use Rattle.std.specs.Prelude.{◌≡◌, ◌+◌, OnOk, OnErr};
     ghost use Rattle.hall.specs.Halls.{to_note};
+    ghost use Rattle.turns.specs.Going.{HallGoesOn};
 
-    // One command more was handed in, or none.
+    // One command more was handed in, or none; and the hall goes on.
     ghost submits = { λ old ticket act result new. OnOk result (new.handed_in ≡ old.handed_in + 1)
-        × OnErr result (new.handed_in ≡ old.handed_in) };
+        × OnErr result (new.handed_in ≡ old.handed_in)
+        × HallGoesOn old.hall new.hall };
 
     ghost to_note = { λ desk ticket. to_note desk.hall ticket };
 
     fn submit(&mut self, ticket: &mut Ticket<O>, act: Act<Op>) -> Result<(), HallError> {
+        halls_go_on::<O>();
         if self.handed_in == u64::MAX {
             return Err(HallError::Full);
         }
@@ -153,8 +165,13 @@ impl<O: Object<Op = Op, Reply = Reply>> Desk for HallDesk<O> {
 }
 
 impl<O: Object<Op = Op, Reply = Reply>> LoopDesk for HallDesk<O> {
-    ghost use Rattle.std.specs.Prelude.{length};
+    ghost use Rattle.std.specs.Prelude.{ℕ, ◌≡◌, ◌≤◌, ◌+◌, refl, length, if◌then◌else◌};
     ghost use Rattle.recorder.specs.Records.{commands_from};
+    ghost use Rattle.turns.specs.Working.{no_work, work_of};
+    ghost use Rattle.turns.specs.Going.{HallGoesOn};
+    ghost use Rattle.turns.specs.GoingLaws.{stays, further};
+    ghost use Rattle.loops.specs.Taking.{for_log};
+    ghost use Rattle.loops.specs.LeadingLaws.{hall_goes};
 
     // By each session.
     ghost handed_in = { λ desk. desk.hall.book };
@@ -163,12 +180,21 @@ impl<O: Object<Op = Op, Reply = Reply>> LoopDesk for HallDesk<O> {
 
     ghost clock = { λ desk. desk.hall.second };
 
-    // What the order has behind what was taken.
-    ghost placed = { λ desk. commands_from desk.taken desk.hall.nodes.past };
+    ghost taken = { λ desk. if desk.logs then desk.taken else 0 };
 
-    ghost effects = { λ desk. length desk.hall.nodes.past.order };
+    // What the order has behind what was taken.
+    ghost placed = { λ desk. for_log desk.logs (commands_from desk.taken desk.hall.nodes.past) };
+
+    ghost is_calm = { λ desk. (n : ℕ) → 1 ≤ n → n ≤ length desk.hall.nodes.network.members
+        → work_of desk.hall n ≡ no_work };
+
+    // Its hall's state.
+    ghost shows = { λ desk s. s.hall ≡ desk.hall };
+
+    ghost leads = { λ s t. HallGoesOn s.hall t.hall };
 
     fn open_session(&mut self) -> Result<Ticket<O>, HallError> {
+        halls_go_on::<O>();
         self.compared.reserve(1)?;
         let HallDesk { hall, compared, .. } = self;
         let ticket = hall.open_session()?;
@@ -193,6 +219,7 @@ impl<O: Object<Op = Op, Reply = Reply>> LoopDesk for HallDesk<O> {
     }
 
     fn tick(&mut self, second: u64, node: u8) {
+        halls_go_on::<O>();
         let HallDesk { hall, .. } = self;
         let _ = hall.tick(second, node);
     }
@@ -208,6 +235,7 @@ impl<O: Object<Op = Op, Reply = Reply>> LoopDesk for HallDesk<O> {
     }
 
     fn hand_in_again(&mut self, ticket: &Ticket<O>, node: u8) {
+        halls_go_on::<O>();
         let HallDesk { hall, .. } = self;
         let _ = hall.resubmit(ticket, node);
     }
@@ -219,15 +247,32 @@ impl<O: Object<Op = Op, Reply = Reply>> LoopDesk for HallDesk<O> {
         Some(key.session)
     }
 
-    fn placed_count(&self) -> u64 {
-        self.hall.placed_count()
+    fn placed_count(&self) -> u64
+        ensures least { (if self.now.logs then self.now.taken else 0)
+            + length (for_log self.now.logs (commands_from self.now.taken self.now.hall.nodes.past)) ≤ result }
+        ensures exact { result ≡ (if self.now.logs then length self.now.hall.nodes.past.order else 0) }
+    {
+        if self.logs {
+            self.hall.placed_count()
+        } else {
+            0
+        }
     }
 
     fn take_placed(&mut self) -> Result<Vec<Command<Op>>, AllocError> {
-        let placed = self.hall.placed_from(self.taken)?;
+        let mut placed = self.hall.placed_from(self.taken)?;
+        if !self.logs {
+            placed.clear();
+        }
         self.taken = self.hall.placed_count();
         Ok(placed)
     }
+
+    ghost stays = { λ s. stays s.hall s.hall refl };
+
+    ghost further = { λ a b c first next. further a.hall b.hall c.hall first next };
+
+    ghost submits_on = { λ old new ticket act result does. hall_goes old.hall new.hall does.2 };
 }
 
 // The sum of these numbers, where it is no greater than a u64.

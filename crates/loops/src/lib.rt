@@ -6,6 +6,7 @@
 mod forgetting_desk;
 mod hall_desk;
 mod server;
+mod steps;
 
 pub use counted_hall::Seconds;
 pub use event_loops::{Clients, Host, Logging, ServeFault};

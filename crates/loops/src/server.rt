@@ -1,6 +1,9 @@
 ghost use Rattle.std.specs.Prelude.{◌≡◌, [], IfOk};
 ghost use Rattle.event_loops.specs.LoopCounts.{IsLoopCount};
 ghost use Rattle.loops.specs.Comparing.{AllCompared};
+ghost use Rattle.loops.specs.Desks.{LeanGoesOn};
+ghost use Rattle.loops.specs.Taking.{HasTaken};
+ghost use Rattle.turns.specs.Going.{HallGoesOn};
 
 use crate::forgetting_desk::ForgettingDesk;
 use crate::hall_desk::HallDesk;
@@ -49,6 +52,7 @@ pub fn serve_clients<O: Object<Op = Op, Reply = Reply> + Send, T: Seconds + Send
     requires loops { IsLoopCount loops }
     ensures served { IfOk result (λ s.
         AllCompared s.hall.book s.compared.items s.acts s.fault) }
+    ensures goes_on { IfOk result (λ s. HallGoesOn hall s.hall) }
 {
     let desk = HallDesk::new(rt.alloc(), hall);
     let terms = Terms {
@@ -72,6 +76,7 @@ pub fn serve_again<O: Object<Op = Op, Reply = Reply> + Send, T: Seconds + Send +
     requires loops { IsLoopCount loops }
     ensures served { IfOk result (λ s.
         AllCompared s.hall.book s.compared.items s.acts s.fault) }
+    ensures goes_on { IfOk result (λ s. HallGoesOn kept.hall s.hall) }
 {
     let KeptHall { hall, tickets } = kept;
     let desk = HallDesk::over(rt.alloc(), hall, tickets.as_slice())?;
@@ -93,6 +98,7 @@ fn serve_whole<O: Object<Op = Op, Reply = Reply> + Send, T: Seconds + Send + Dro
     requires loops { IsLoopCount terms.loops }
     ensures served { IfOk result (λ s.
         AllCompared s.hall.book s.compared.items s.acts s.fault) }
+    ensures goes_on { IfOk result (λ s. HallGoesOn desk.hall s.hall) }
 {
     let (desk, fault) = serve_desk(rt, desk, seconds, terms)?;
     let (hall, compared, acts, agree) = desk.into_hall();
@@ -126,17 +132,20 @@ pub fn serve_forgetting<
     loops: u32,
 ) -> Result<ServedForgetting<O>, ServeFault>
     requires loops { IsLoopCount loops }
+    ensures goes_on { IfOk result (λ s. LeanGoesOn O.rules hall s.hall) }
 {
+    let desk = ForgettingDesk::new(rt.alloc(), hall);
     let terms = Terms {
         clients,
         loops,
         log: None,
     };
-    serve_lean(rt, hall, seconds, terms)
+    serve_lean(rt, desk, seconds, terms)
 }
 
-/// The same, where a log is kept of what takes effect from now on. Where each answer waits for the log, nobody is told anything before all that took effect until then is kept there. Where the log fails, nobody is told
-/// anything more, and the server ends.
+/// The same, where a log is kept of what takes effect from now on: it has what took effect in the hall before. Nobody is told
+/// anything before all that took effect until then is kept there. Where the log fails, nobody is told anything more, and the
+/// server ends.
 pub fn serve_logged<O: Object<Op = Op, Reply = Reply> + Send, T: Seconds + Send + Drop, R: Host>(
     rt: &R,
     hall: ForgettingHall<O>,
@@ -146,27 +155,29 @@ pub fn serve_logged<O: Object<Op = Op, Reply = Reply> + Send, T: Seconds + Send 
     loops: u32,
 ) -> Result<ServedForgetting<O>, ServeFault>
     requires loops { IsLoopCount loops }
+    requires in_step { HasTaken O.rules hall logging.journal.synced }
+    ensures goes_on { IfOk result (λ s. LeanGoesOn O.rules hall s.hall) }
 {
-    let mut hall = hall;
-    hall.gather();
+    let taken = logging.journal.synced().upto();
+    let desk = ForgettingDesk::logging(rt.alloc(), hall, taken);
     let terms = Terms {
         clients,
         loops,
         log: Some(SharedLog::new(logging)),
     };
-    serve_lean(rt, hall, seconds, terms)
+    serve_lean(rt, desk, seconds, terms)
 }
 
 // Serves clients over a hall that forgets.
 fn serve_lean<O: Object<Op = Op, Reply = Reply> + Send, T: Seconds + Send + Drop, R: Host>(
     rt: &R,
-    hall: ForgettingHall<O>,
+    desk: ForgettingDesk<O>,
     seconds: T,
     terms: Terms,
 ) -> Result<ServedForgetting<O>, ServeFault>
     requires loops { IsLoopCount terms.loops }
+    ensures goes_on { IfOk result (λ s. LeanGoesOn O.rules desk.hall s.hall) }
 {
-    let desk = ForgettingDesk::new(rt.alloc(), hall);
     let (desk, fault) = serve_desk(rt, desk, seconds, terms)?;
     let hall = desk.into_hall();
     Ok(ServedForgetting { hall, fault })

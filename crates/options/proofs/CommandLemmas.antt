@@ -1,5 +1,5 @@
 -- A command line in which clap finds no error names one of the program's commands, and not `help`.
-use Rattle.std.proofs.Common.{◌≡◌, ◌≢◌, ◌⊎◌, inl, inr, ◌∙◌, ◌&&◌, ◌||◌, ℕ, Bool, true, false, not, List, [], ◌∷◌}
+use Rattle.std.proofs.Common.{◌≡◌, ◌≢◌, ◌⊎◌, inl, inr, ◌∙◌, ◌&&◌, ◌||◌, ℕ, Bool, true, false, not, List, [], ◌∷◌, ◌++◌, map}
 use Rattle.std.proofs.Common.{Option, None, Some, is_some, if◌then◌else◌, option_map, codes, refl, sym, ap, ap₂, subst}
 use Rattle.std.proofs.Common.{◌^◌, ◌-◌}
 use Rattle.std.specs.Prelude.{option_and_then, find, fold, cond}
@@ -28,7 +28,7 @@ use Rattle.options.specs.Hosts.{IsHostOf}
 use Rattle.options.specs.Numbers.{IsNumberIfGiven, IsNumberOr}
 use Rattle.options.specs.Weights.{AreMembersOf}
 use Rattle.options.specs.declared.words.Action.{Action}
-use Rattle.options.specs.declared.words.Action.TheVariants.{Run, Serve, Inspect, BadWeights, BadHost, Help, Wrong}
+use Rattle.options.specs.declared.words.Action.TheVariants.{Run, Serve, Inspect, BadWeights, BadHost, Help, Version, Wrong}
 use Rattle.options.specs.Words.{AskFor, AskForRun, IsAskedBy, IsRunOf, IsServeOf, IsServerOf, command_given, errors_in}
 use Rattle.options.specs.Words.{profile_by, program_command, run_command, serve_command, inspect_command, text_given, word_given}
 use Rattle.options.specs.declared.words.ServerOptions.{ServerOptions}
@@ -145,49 +145,51 @@ answers_help word other is =
     either_false true e = refl
     either_false false e = absurd (cc)
 
+-- the name is one of these
+abbrev IsOneOf : List Text → Text → Type 0
+IsOneOf [] name = ⊥
+IsOneOf (it ∷ names) name = (name ≡ it) ⊎ IsOneOf names name
+
 -- the name is that of one of the program's commands
 abbrev IsNamed : Text → Type 0
-IsNamed name = (name ≡ codes "run") ⊎ (name ≡ codes "serve") ⊎ (name ≡ codes "inspect")
+IsNamed name = IsOneOf (codes "run" ∷ codes "serve" ∷ codes "inspect" ∷ codes "version" ∷ []) name
 
--- which of four commands is entered, of which the last is `help`
-entered_is : (a b c d : Shape) (stop : Option (Text × List Text)) (rows : Text × List Row) → d.name ≡ codes "help" → d.aliases ≡ []
-    → IsNoHelp stop → option_and_then (λ p. option_map (λ s. rows_at s p.1) (find (λ s. answers_to p.0 (label_of s)) (a ∷ b ∷ c ∷ d ∷ []))) stop ≡ Some rows
-    → (rows.0 ≡ a.name) ⊎ (rows.0 ≡ b.name) ⊎ (rows.0 ≡ c.name)
-entered_is a b c d None rows named alone fine is = absurd (cc)
-entered_is a b c d (Some p) rows named alone fine is =
-    elim (answers_to p.0 (label_of a)) as (λ t. option_map (λ s. rows_at s p.1)
-    (cond t (Some a) (cond (answers_to p.0 (label_of b)) (Some b)
-    (cond (answers_to p.0 (label_of c)) (Some c) (cond (answers_to p.0 (label_of d)) (Some d) None)))) ≡ Some rows
-    → (rows.0 ≡ a.name) ⊎ (rows.0 ≡ b.name) ⊎ (rows.0 ≡ c.name)) [
-      | true ↦ λ e. inl (sym (name_of a e))
-      | false ↦ elim (answers_to p.0 (label_of b)) as (λ t. option_map (λ s. rows_at s p.1)
-          (cond t (Some b) (cond (answers_to p.0 (label_of c)) (Some c)
-          (cond (answers_to p.0 (label_of d)) (Some d) None))) ≡ Some rows → (rows.0 ≡ a.name) ⊎ (rows.0 ≡ b.name)
-          ⊎ (rows.0 ≡ c.name)) [
-            | true ↦ λ e. inr (inl (sym (name_of b e)))
-            | false ↦ elim (answers_to p.0 (label_of c)) as (λ t. option_map (λ s. rows_at s p.1)
-                (cond t (Some c) (cond (answers_to p.0 (label_of d)) (Some d) None)) ≡ Some rows → (rows.0 ≡ a.name)
-                ⊎ (rows.0 ≡ b.name) ⊎ (rows.0 ≡ c.name)) [
-                  | true ↦ λ e. inr (inr (sym (name_of c e)))
-                  | false ↦ λ e. absurd (last (answers_to p.0 (label_of d)) refl e)
-                ]
-          ]
+-- which of these commands is found, where only `help` stands behind them
+found_is : (shapes : List Shape) (help : Shape) (stop : Text × List Text) (rows : Text × List Row)
+    → help.name ≡ codes "help" → help.aliases ≡ [] → bytes_eq stop.0 (codes "help") ≡ false
+    → option_map (λ s. rows_at s stop.1) (find (λ s. answers_to stop.0 (label_of s)) (shapes ++ help ∷ [])) ≡ Some rows
+    → IsOneOf (map (λ s. s.name) shapes) rows.0
+found_is [] help stop rows named alone fine is = absurd (last (answers_to stop.0 (label_of help)) refl is)
+  where
+    last : (t : Bool) → answers_to stop.0 (label_of help) ≡ t → option_map (λ s. rows_at s stop.1) (cond t (Some help) None) ≡ Some rows → ⊥
+    last true answers e =
+        let label : label_of help ≡ (codes "help", []) = ap₂ (λ name aliases. (name, aliases)) named alone in
+        answers_help stop.0 fine (subst (λ l. answers_to stop.0 l ≡ true) label answers)
+    last false answers e = absurd (cc)
+found_is (shape ∷ shapes) help stop rows named alone fine is =
+    elim (answers_to stop.0 (label_of shape)) as (λ t. option_map (λ s. rows_at s stop.1)
+    (cond t (Some shape) (find (λ s. answers_to stop.0 (label_of s)) (shapes ++ help ∷ []))) ≡ Some rows
+    → IsOneOf (map (λ s. s.name) (shape ∷ shapes)) rows.0) [
+      | true ↦ λ e. inl (sym (name_of e))
+      | false ↦ λ e. inr (found_is shapes help stop rows named alone fine e)
     ] is
   where
-    name_of : (s : Shape) → Some (rows_at s p.1) ≡ Some rows → s.name ≡ rows.0
-    name_of s e = let same : rows_at s p.1 ≡ rows = cc in ap (λ r. r.0) same
+    name_of : Some (rows_at shape stop.1) ≡ Some rows → shape.name ≡ rows.0
+    name_of e = let same : rows_at shape stop.1 ≡ rows = cc in ap (λ r. r.0) same
 
-    last : (t : Bool) → answers_to p.0 (label_of d) ≡ t → option_map (λ s. rows_at s p.1) (cond t (Some d) None) ≡ Some rows → ⊥
-    last true answers e =
-        let label : label_of d ≡ (codes "help", []) = ap₂ (λ name aliases. (name, aliases)) named alone in
-        answers_help p.0 fine (subst (λ l. answers_to p.0 l ≡ true) label answers)
-    last false answers e = absurd (cc)
+-- which of them is entered
+entered_is : (shapes : List Shape) (help : Shape) (stop : Option (Text × List Text)) (rows : Text × List Row)
+    → help.name ≡ codes "help" → help.aliases ≡ [] → IsNoHelp stop
+    → option_and_then (λ p. option_map (λ s. rows_at s p.1) (find (λ s. answers_to p.0 (label_of s)) (shapes ++ help ∷ []))) stop ≡ Some rows
+    → IsOneOf (map (λ s. s.name) shapes) rows.0
+entered_is shapes help None rows named alone fine is = absurd (cc)
+entered_is shapes help (Some stop) rows named alone fine is = found_is shapes help stop rows named alone fine is
 
 -- the command that is met at a built program, where the code finds no fault in the words
 met_is : (words : List Text) (rows : Text × List Row) → errors_in words ≡ [] → subcommand_of program_command words ≡ Some rows → IsNamed rows.0
 unfolding errors_in program_command run_command serve_command inspect_command clap_on_literals
 met_is words rows none is =
-    entered_is run serve inspect help _ rows refl refl
+    entered_is (run ∷ serve ∷ inspect ∷ version ∷ []) help _ rows refl refl
     (walk_is (built program_command).top (names_of (built program_command)) (argument_words program_command words)
     (walk_from nothing_held) refl tt (first_none _ _ none)) is
   where
@@ -200,8 +202,11 @@ met_is words rows none is =
     inspect : Shape
     inspect = slice_index_or (built program_command).subs 2 help_shape
 
+    version : Shape
+    version = slice_index_or (built program_command).subs 3 help_shape
+
     help : Shape
-    help = slice_index_or (built program_command).subs 3 help_shape
+    help = slice_index_or (built program_command).subs 4 help_shape
 
 given_is : (words : List Text) (met : Option (Text × List Row)) (name : Text)
     → subcommand_of program_command words ≡ met → errors_in words ≡ [] → option_map (λ c. c.0) met ≡ Some name
@@ -282,15 +287,17 @@ server_same text other word another texts words options is = record {
 pub meets_one : (words : List Text) (m : ArgMatches) → errors_in words ≡ []
     → subcommand_rows_of m ≡ subcommand_of program_command words → has_subcommand m ≡ true
     → (subcommand_name_of m ≡ Some (codes "run") → ⊥) → (subcommand_name_of m ≡ Some (codes "serve") → ⊥)
-    → (subcommand_name_of m ≡ Some (codes "inspect") → ⊥) → ⊥
-meets_one words m none met some no_run no_serve no_inspect = go (subcommand_name_of m) refl (is_some-map _ (out-ArgMatches m).subcommand some)
+    → (subcommand_name_of m ≡ Some (codes "inspect") → ⊥) → (subcommand_name_of m ≡ Some (codes "version") → ⊥) → ⊥
+meets_one words m none met some no_run no_serve no_inspect no_version = go (subcommand_name_of m) refl (is_some-map _ (out-ArgMatches m).subcommand some)
   where
     go : (name : Option Text) → subcommand_name_of m ≡ name → is_some name ≡ true → ⊥
     go None e is = absurd (cc)
     go (Some name) e is = elim (names_a_command words name none (command_given-of words m name met e)) as (λ v. ⊥) [
       | inl n ↦ no_run (e ∙ ap (λ x. Some x) n)
       | inr (inl n) ↦ no_serve (e ∙ ap (λ x. Some x) n)
-      | inr (inr n) ↦ no_inspect (e ∙ ap (λ x. Some x) n)
+      | inr (inr (inl n)) ↦ no_inspect (e ∙ ap (λ x. Some x) n)
+      | inr (inr (inr (inl n))) ↦ no_version (e ∙ ap (λ x. Some x) n)
+      | inr (inr (inr (inr never))) ↦ never
     ]
 
 -- a run by one reading of the words is one by another that gives the same
@@ -306,6 +313,7 @@ run_same text other word another texts words BadHost is = absurd is
 run_same text other word another texts words (Serve options) is = absurd is
 run_same text other word another texts words (Inspect file) is = absurd is
 run_same text other word another texts words (Help told) is = absurd is
+run_same text other word another texts words Version is = absurd is
 run_same text other word another texts words (Wrong told) is = absurd is
 
 -- and so is a server
@@ -317,6 +325,7 @@ serve_same text other word another texts words BadHost is = subst (λ w. IsHostO
 serve_same text other word another texts words (Run options) is = absurd is
 serve_same text other word another texts words (Inspect file) is = absurd is
 serve_same text other word another texts words (Help told) is = absurd is
+serve_same text other word another texts words Version is = absurd is
 serve_same text other word another texts words (Wrong told) is = absurd is
 
 -- what a run is asked of words that name it
@@ -327,6 +336,7 @@ run_asked words run BadHost is = absurd is
 run_asked words run (Serve options) is = absurd is
 run_asked words run (Inspect file) is = absurd is
 run_asked words run (Help told) is = absurd is
+run_asked words run Version is = absurd is
 run_asked words run (Wrong told) is = absurd is
 
 -- what a server is asked of words that name it
@@ -338,4 +348,5 @@ serve_asked words serve BadHost is = (serve, is)
 serve_asked words serve (Run options) is = absurd is
 serve_asked words serve (Inspect file) is = absurd is
 serve_asked words serve (Help told) is = absurd is
+serve_asked words serve Version is = absurd is
 serve_asked words serve (Wrong told) is = absurd is

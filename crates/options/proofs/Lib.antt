@@ -1,3 +1,4 @@
 pub mod WordsLemmas
 pub mod CommandLemmas
 pub mod WeightWords
+pub mod VersionWords

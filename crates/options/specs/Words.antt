@@ -1,17 +1,17 @@
 -- What the words of a command line ask for.
-use Rattle.std.specs.Prelude.{◌≡◌, ◌≢◌, ◌≤◌, ◌^◌, ◌-◌, ℕ, pos, Bool, true, false, not, ◌&&◌, List, [], Option, None}
+use Rattle.std.specs.Prelude.{◌≡◌, ◌≢◌, ◌⊎◌, ◌≤◌, ◌^◌, ◌-◌, ℕ, pos, Bool, true, false, not, ◌&&◌, List, [], ◌∷◌, Option, None}
 use Rattle.std.specs.Prelude.{Some, if◌then◌else◌, codes, option_map, option_and_then, string_bytes, unwrap_or, is_some}
 use Rattle.clap.specs.Words.{App, Rule, IsAmong, Kinds, fault_of, first_of, new_app, new_rule, one_of, rule_of, subcommand_of, with_rule, with_subcommand}
 use Rattle.clap.specs.declared.builder.action.ArgAction.TheVariants.{SetTrue}
 use Rattle.clap.specs.declared.builder.arg.Arg.{Arg}
 use Rattle.clap.specs.declared.builder.value_parser.ValueParser.TheVariants as parser
 use Rattle.clap.specs.declared.error.kind.ErrorKind.{ErrorKind}
-use Rattle.clap.specs.declared.error.kind.ErrorKind.TheVariants.{DisplayHelp}
+use Rattle.clap.specs.declared.error.kind.ErrorKind.TheVariants.{DisplayHelp, DisplayVersion}
 use Rattle.std.specs.Str.{bytes_eq}
 use Rattle.bean_codec.specs.declared.profile.Profile.{Profile}
 use Rattle.bean_codec.specs.declared.profile.Profile.TheVariants.{Plain, Extended}
 use Rattle.options.specs.declared.words.Action.{Action}
-use Rattle.options.specs.declared.words.Action.TheVariants.{Run, Serve, Inspect, BadWeights, BadHost, Help, Wrong}
+use Rattle.options.specs.declared.words.Action.TheVariants.{Run, Serve, Inspect, BadWeights, BadHost, Help, Version, Wrong}
 use Rattle.options.specs.declared.words.ServerOptions.{ServerOptions}
 use Rattle.options.specs.Hosts.{IsHostOf, IsLoopback}
 use Rattle.options.specs.Numbers.{IsNumberOr, IsNumberIfGiven}
@@ -86,12 +86,17 @@ serve_command =
 unfoldable pub inspect_command : App
 inspect_command = with_rule (new_app (codes "inspect")) file_argument
 
--- the program's name, and then one of its commands
+-- `version` alone
+abbrev pub version_command : App
+version_command = new_app (codes "version")
+
+-- the program's name, and then one of its commands, or `--version`
 unfoldable pub program_command : App
 program_command =
     let named = new_app (codes "beanpax") in
-    let required = record named { top = record named.top { subcommand_required = true } } in
-    with_subcommand (with_subcommand (with_subcommand required run_command.top) serve_command.top) inspect_command.top
+    let required = record named { top = record named.top { has_version = true; subcommand_required = true } } in
+    let working = with_subcommand (with_subcommand required run_command.top) serve_command.top in
+    with_subcommand (with_subcommand working inspect_command.top) version_command.top
 
 -- which errors clap finds in the words
 unfoldable pub errors_in : List (List ℕ) → Kinds
@@ -187,9 +192,20 @@ AskForInspection words file = AskFor (codes "inspect") words × (file ≡ unwrap
 abbrev pub AskForHelp : List (List ℕ) → Type 0
 AskForHelp words = IsAmong DisplayHelp (errors_in words)
 
+-- the words call for the version: by `--version` or `-V`, or by the command `version`
+abbrev pub AskForVersion : List (List ℕ) → Type 0
+AskForVersion words = IsAmong DisplayVersion (errors_in words) ⊎ AskFor (codes "version") words
+
+-- behind the program's name stands `--version` or `-V`, or `version` alone
+abbrev pub NameVersion : List (List ℕ) → Type 0
+NameVersion [] = ⊥
+NameVersion (program ∷ []) = ⊥
+NameVersion (program ∷ first ∷ rest) =
+    (first ≡ codes "--version") ⊎ (first ≡ codes "-V") ⊎ ((first ≡ codes "version") × (rest ≡ []))
+
 -- something is wrong with the words
 abbrev pub AreWrong : List (List ℕ) → Type 0
-AreWrong words = (kind : ErrorKind) × (kind ≢ DisplayHelp) × IsAmong kind (errors_in words)
+AreWrong words = (kind : ErrorKind) × (kind ≢ DisplayHelp) × (kind ≢ DisplayVersion) × IsAmong kind (errors_in words)
 
 -- nothing is wrong with the words but the weights, which are outside their rule or stand beside a number of nodes
 abbrev pub HaveBadWeights : List (List ℕ) → Type 0
@@ -207,4 +223,5 @@ IsAskedBy words (Inspect file) = AskForInspection words file.now
 IsAskedBy words BadWeights = HaveBadWeights words
 IsAskedBy words BadHost = HaveBadHost words
 IsAskedBy words (Help text) = AskForHelp words × (string_bytes text ≢ [])
+IsAskedBy words Version = AskForVersion words
 IsAskedBy words (Wrong text) = AreWrong words × (string_bytes text ≢ [])

@@ -4,7 +4,10 @@
 //! `specs/Hosts.antt` what the values of options are read as.
 #![tactic(auto)]
 
+mod hosts;
+mod laws;
 mod weights;
 mod words;
 
-pub use words::{Action, RunOptions, ServerOptions, parse_words};
+pub use laws::version_alone;
+pub use words::{Action, RunOptions, ServerOptions, VERSION, parse_words};

@@ -7,11 +7,13 @@ ghost use Rattle.options.specs.Hosts.{IsHostOf, IsLoopback};
 ghost use Rattle.options.specs.Numbers.{IsNumberOr};
 ghost use Rattle.options.specs.Weights.{AreMembersOf};
 ghost use Rattle.options.specs.Words.{IsAskedBy, IsRunOf, IsServeOf, IsServerOf, has_unwritten_dump, profile_by};
-ghost use Rattle.options.specs.Words.{program_command, run_command, serve_command, inspect_command};
+ghost use Rattle.options.specs.Words.{program_command, run_command, serve_command};
+ghost use Rattle.options.specs.Words.{inspect_command, version_command};
 ghost use Rattle.options.specs.Words.{IsArgument, file_argument};
 ghost use Rattle.options.specs.Words.{nodes_option, weights_option, seed_option, host_option, port_option};
 ghost use Rattle.options.specs.Words.{workers_option, sessions_option, dump_option, log_option, sync_option, stats_option};
 
+use crate::hosts::host_in;
 use crate::weights::members_in;
 use ballot::Members;
 use bean_codec::Profile;
@@ -19,6 +21,9 @@ use clap::error::ErrorKind;
 use clap::{Arg, ArgAction, ArgMatches, Command, Error, value_parser};
 use std::alloc::{AllocError, Global};
 use std::net::{IpAddr, Ipv4Addr};
+
+/// The program's name and its version.
+pub const VERSION: &str = "beanpax 0.1.0\n";
 
 /// There are so many nodes at most.
 const MOST_NODES: u8 = 7;
@@ -53,6 +58,8 @@ pub enum Action<'a> {
     BadHost,
     /// This help.
     Help(String),
+    /// The program's name and version: [`VERSION`].
+    Version,
     /// Nothing: the words are wrong, and the text says why.
     Wrong(String),
 }
@@ -131,6 +138,9 @@ pub fn parse_words<'a>(alloc: Global, words: &'a [String]) -> Result<Action<'a>,
             if let Some(serve) = matches.subcommand_matches("serve") {
                 return serve_of(alloc, serve);
             }
+            if matches.subcommand_matches("version").is_some() {
+                return Ok(Action::Version);
+            }
             // A command is required, and `help` is never matched.
             match matches.subcommand_matches("inspect") {
                 Some(inspect) => Ok(Action::Inspect {
@@ -142,6 +152,7 @@ pub fn parse_words<'a>(alloc: Global, words: &'a [String]) -> Result<Action<'a>,
         Err(error) => match error.kind() {
             ErrorKind::OutOfMemory => Err(AllocError),
             ErrorKind::DisplayHelp => Ok(Action::Help(text_of(alloc, &error)?)),
+            ErrorKind::DisplayVersion => Ok(Action::Version),
             _ => Ok(Action::Wrong(text_of(alloc, &error)?)),
         },
     }
@@ -256,12 +267,12 @@ fn workers_of(serve: &ArgMatches<'_>) -> u32
     }
 }
 
-// The address that the words name; none where what they name is no address.
+// The address that the words name; none where they name something else.
 fn host_of(serve: &ArgMatches<'_>) -> Option<IpAddr>
     ensures { IsHostOf (first_value (found_of serve.now) (codes "host")) result }
 {
     match serve.get_str("host") {
-        Some(text) => text.parse().ok(),
+        Some(text) => host_in(text),
         None => Some(IpAddr::V4(Ipv4Addr::LOCALHOST)),
     }
 }
@@ -299,17 +310,19 @@ fn profile_of(found: &ArgMatches<'_>) -> Profile
     }
 }
 
-// The words that the program takes.
+// The words that the program takes. Clap's own text of the version isn't printed.
 fn program_words<'a>(alloc: Global) -> Result<Command<'a>, AllocError>
     ensures app { IfOk result (λ c. app_of c ≡ program_command) }
     ensures no_globals { IfOk result (λ c. (fields_of c).has_globals ≡ false) }
 {
     Command::new(alloc, "beanpax")
         .about("A work queue")
+        .version(VERSION)
         .subcommand_required(true)
         .subcommand(run_words(alloc)?)?
         .subcommand(serve_words(alloc)?)?
-        .subcommand(inspect_words(alloc)?)
+        .subcommand(inspect_words(alloc)?)?
+        .subcommand(version_words(alloc))
 }
 
 // The words of `run`.
@@ -354,6 +367,14 @@ fn inspect_words<'a>(alloc: Global) -> Result<Command<'a>, AllocError>
         .arg(file_words(alloc))
 }
 
+// The word `version`.
+fn version_words<'a>(alloc: Global) -> Command<'a>
+    ensures app { app_of result ≡ version_command }
+    ensures no_globals { (fields_of result).has_globals ≡ false }
+{
+    Command::new(alloc, "version").about("Tells the version")
+}
+
 fn nodes_words<'a>(alloc: Global) -> Arg<'a>
     ensures { IsArgument nodes_option result }
 {
@@ -389,7 +410,7 @@ fn host_words<'a>(alloc: Global) -> Arg<'a>
     ensures { IsArgument host_option result }
 {
     Arg::new(alloc, "host").long("host").value_name("ADDR").help(
-        "The IPv4 or IPv6 address that it listens at [default: 127.0.0.1]",
+        "The IPv4 or IPv6 address, or localhost, that it listens at [default: 127.0.0.1]",
     )
 }
 

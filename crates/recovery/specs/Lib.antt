@@ -1,2 +1,4 @@
 pub mod Opened
+pub mod Clocks
+pub mod Sessions
 pub mod Obeyed

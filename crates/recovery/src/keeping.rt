@@ -1,8 +1,10 @@
 ghost use Rattle.std.specs.Prelude.{◌≡◌, ◌++◌, false, length, IfOk, OnOk, IsTrue};
 ghost use Rattle.hall.specs.Halls.{has_unplaced};
 ghost use Rattle.recorder.specs.Records.{commands_from};
+ghost use Rattle.recovery.specs.Clocks.{last_second_in};
 ghost use Rattle.recovery.specs.Opened.{EndsAll};
 
+use crate::clock::last_second_in;
 use crate::fault::RecoverFault;
 use crate::open_sessions::{end_all, note_all};
 use crate::recovery::are_same;
@@ -66,13 +68,15 @@ impl<O: Object> KeepingRecovery<O> {
     }
 
     /// Ends each session that is open. What took effect has to be these commands, which are all of the log, and then
-    /// the ends. Nothing waits then to take effect, and each session has a ticket.
+    /// the ends. Nothing waits then to take effect, each session has a ticket, and the clock stands where the log's
+    /// does.
     pub fn finish(self, commands: &[Command<O::Op>]) -> Result<RecoveredKeeping<O>, RecoverFault>
         ensures members { IfOk result (λ r. r.hall.nodes.network.members ≡ self) }
         ensures placed { IfOk result (λ r.
             commands_from 0 r.hall.nodes.past ≡ commands.now ++ r.closes.items) }
         ensures closes { IfOk result (λ r. EndsAll commands.now r.closes.items) }
         ensures settled { IfOk result (λ r. has_unplaced r.hall ≡ false) }
+        ensures second { IfOk result (λ r. r.hall.second ≡ last_second_in commands.now) }
         ensures tickets { IfOk result (λ r. length r.tickets.items ≡ length r.hall.book) }
     {
         let mut live = BTreeSet::new(self.alloc);
@@ -92,6 +96,9 @@ impl<O: Object> KeepingRecovery<O> {
             return Err(RecoverFault::NoOrder);
         }
         if hall.has_unplaced() || tickets.len() != hall.book().len() {
+            return Err(RecoverFault::NoOrder);
+        }
+        if hall.last_second() != last_second_in(commands) {
             return Err(RecoverFault::NoOrder);
         }
         Ok(RecoveredKeeping {

@@ -2,6 +2,7 @@
 //! session that the log leaves open. `Recovery` is for a hall that forgets, `KeepingRecovery` for one that keeps all.
 #![tactic(auto)]
 
+mod clock;
 mod fault;
 mod keeping;
 mod open_sessions;

@@ -1,9 +1,13 @@
 ghost use Rattle.std.specs.Prelude.{◌≡◌, ◌≤◌, ◌<◌, ◌++◌, ℕ, List, [], length, take, IfOk, OnOk, IsTrue};
 ghost use Rattle.object.specs.declared.command.Command.{Command};
+ghost use Rattle.forgetting_hall.specs.Handing.{second_of};
 ghost use Rattle.forgetting_hall.specs.Telling.{HasTold, TellsOn};
+ghost use Rattle.recovery.specs.Clocks.{last_second_in};
 ghost use Rattle.recovery.specs.Obeyed.{HasReplayed};
 ghost use Rattle.recovery.specs.Opened.{EndsAll};
+ghost use Rattle.recovery.specs.Sessions.{AreSessionsOf, KeepsNoneOf};
 
+use crate::clock::last_second_in;
 use crate::fault::RecoverFault;
 use crate::open_sessions::{end_all, note_all};
 use crate::sessions::sessions_of;
@@ -24,6 +28,8 @@ pub struct Recovery<O: Object> {
     hall: ForgettingHall<O>,
     // Those that are open after what was obeyed.
     live: BTreeSet<u32>,
+    // The greatest second that was obeyed, 0 where there is none.
+    second: u64,
     // All that the log has, in rising order; so many were opened.
     sessions: Vec<u32>,
     opened: usize,
@@ -40,7 +46,12 @@ impl<O: Object> Model for Recovery<O> {
 
     ghost coded = { Prim.hlevel (codes, slots_code, latest_code, O.code, O.Op.code, O.Reply.code) };
 
-    ghost view = { λ r. record { hall = r.hall; live = r.live } };
+    ghost view = { λ r. record {
+      hall = r.hall;
+      live = r.live;
+      second = r.second;
+      sessions = r.sessions.items;
+    } };
 }
 
 /// A hall that has obeyed a log, and the commands by which it ended each session that the log leaves open. They took
@@ -58,11 +69,13 @@ impl<O: Object> Recovery<O> {
         members: Members,
         commands: &[Command<O::Op>],
     ) -> Result<Recovery<O>, RecoverFault>
-        ensures { IfOk result (λ r. HasReplayed O.rules members r []) }
+        ensures obeyed { IfOk result (λ r. HasReplayed O.rules members r []) }
+        ensures sessions { IfOk result (λ r. AreSessionsOf r.sessions commands.now) }
     {
         Ok(Recovery {
             hall: begun(alloc, members)?,
             live: BTreeSet::new(alloc),
+            second: 0,
             sessions: sessions_of(alloc, commands)?,
             opened: 0,
             alloc,
@@ -76,14 +89,17 @@ impl<O: Object> Recovery<O> {
             → HasReplayed O.rules members self.old before
             → HasReplayed O.rules members self.new (before ++ take count commands.now)) }
         ensures few { IfOk result (λ count. count ≤ length commands.now) }
+        ensures at_once { IfOk result (λ count. count ≤ 64) }
         ensures some { IfOk result (λ count. 0 < length commands.now → 0 < count) }
+        ensures sessions { OnOk result (self.new.sessions ≡ self.old.sessions) }
     {
         let count = commands.len().min(AT_ONCE);
         self.obey(&commands[..count])?;
         Ok(count)
     }
 
-    /// Ends each session that is open. Nothing waits then to take effect.
+    /// Ends each session that is open. Nothing waits then to take effect, the clock stands where the log's does, and
+    /// nothing is kept of the log's sessions.
     pub fn finish(self) -> Result<Recovered<O>, RecoverFault>
         ensures told { IfOk result (λ r. (members : List ℕ) (before : List (Command O.Op))
             → HasReplayed O.rules members self before
@@ -95,10 +111,19 @@ impl<O: Object> Recovery<O> {
             → r.hall.summary.placed ≡ length (before ++ r.closes.items)) }
         ensures settled { IfOk result (λ r. (members : List ℕ) (before : List (Command O.Op))
             → HasReplayed O.rules members self before → r.hall.summary.submitted ≡ r.hall.summary.placed) }
+        ensures second { IfOk result (λ r. (members : List ℕ) (before : List (Command O.Op))
+            → HasReplayed O.rules members self before → second_of r.hall ≡ last_second_in before) }
+        ensures let_go { IfOk result (λ r. KeepsNoneOf r.hall self.sessions) }
         ensures gathered { IfOk result (λ r. r.hall.gathering.commands ≡ []) }
     {
         tells_in_order::<O>();
-        let Recovery { mut hall, live, .. } = self;
+        let Recovery {
+            mut hall,
+            live,
+            second,
+            sessions,
+            ..
+        } = self;
         for session in &live {
             steps::close(&mut hall, *session)?;
         }
@@ -107,7 +132,10 @@ impl<O: Object> Recovery<O> {
             return Err(RecoverFault::NoOrder);
         }
         steps::forget(&mut hall, &closes);
-        if !has_settled(&hall) {
+        if !has_settled(&hall) || hall.last_second() != second {
+            return Err(RecoverFault::NoOrder);
+        }
+        if !keeps_none_of(&hall, &sessions) {
             return Err(RecoverFault::NoOrder);
         }
         Ok(Recovered { hall, closes })
@@ -115,9 +143,10 @@ impl<O: Object> Recovery<O> {
 
     // Obeys these commands. What takes effect has to be just these.
     fn obey(&mut self, commands: &[Command<O::Op>]) -> Result<(), RecoverFault>
-        ensures { OnOk result ((members : List ℕ) (before : List (Command O.Op))
+        ensures obeyed { OnOk result ((members : List ℕ) (before : List (Command O.Op))
             → HasReplayed O.rules members self.old before
             → HasReplayed O.rules members self.new (before ++ commands.now)) }
+        ensures sessions { OnOk result (self.new.sessions ≡ self.old.sessions) }
     {
         for command in commands {
             self.hand_in(command)?;
@@ -127,6 +156,7 @@ impl<O: Object> Recovery<O> {
             return Err(RecoverFault::NoOrder);
         }
         note_all(&mut self.live, commands)?;
+        self.second = self.second.max(last_second_in(commands));
         steps::forget(&mut self.hall, commands);
         Ok(())
     }
@@ -135,6 +165,8 @@ impl<O: Object> Recovery<O> {
     fn hand_in(&mut self, command: &Command<O::Op>) -> Result<(), RecoverFault>
         ensures hall { TellsOn O.rules self.old.hall self.new.hall }
         ensures live { self.new.live ≡ self.old.live }
+        ensures second { self.new.second ≡ self.old.second }
+        ensures sessions { self.new.sessions ≡ self.old.sessions }
     {
         let session = command.key().session;
         while self.opened < self.sessions.len() && self.sessions[self.opened] <= session {
@@ -175,6 +207,18 @@ fn has_settled<O: Object>(hall: &ForgettingHall<O>) -> bool
         → hall.now.summary.submitted ≡ hall.now.summary.placed }
 {
     hall.submitted_count() == hall.placed_count()
+}
+
+// Whether the hall keeps nothing of any of these sessions.
+fn keeps_none_of<O: Object>(hall: &ForgettingHall<O>, sessions: &[u32]) -> bool
+    ensures { IsTrue result → KeepsNoneOf hall.now sessions.now }
+{
+    for session in sessions {
+        if hall.client(*session).is_some() {
+            return false;
+        }
+    }
+    true
 }
 
 /// Whether the values are the same, one by one.

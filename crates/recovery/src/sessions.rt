@@ -1,3 +1,6 @@
+ghost use Rattle.std.specs.Prelude.{IfOk};
+ghost use Rattle.recovery.specs.Sessions.{AreSessionsOf};
+
 use object::{Command, Value};
 use std::alloc::{AllocError, Global};
 
@@ -5,7 +8,9 @@ use std::alloc::{AllocError, Global};
 pub(crate) fn sessions_of<Op: Value>(
     alloc: Global,
     commands: &[Command<Op>],
-) -> Result<Vec<u32>, AllocError> {
+) -> Result<Vec<u32>, AllocError>
+    ensures { IfOk result (λ sessions. AreSessionsOf sessions.items commands.now) }
+{
     let mut sessions = Vec::new(alloc);
     let mut last = 0;
     for command in commands {

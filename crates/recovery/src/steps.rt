@@ -1,4 +1,5 @@
-ghost use Rattle.std.specs.Prelude.{◌≡◌, OnOk};
+ghost use Rattle.std.specs.Prelude.{◌≡◌, ◌≤◌, ℕ, OnOk};
+ghost use Rattle.turns.specs.Working.{no_work};
 ghost use Rattle.forgetting_hall.specs.Telling.{TellsOn};
 
 use crate::fault::RecoverFault;
@@ -22,7 +23,9 @@ pub(crate) fn wake<O: Object>(hall: &mut ForgettingHall<O>) -> Result<(), Recove
 
 /// The nodes take their turns, until none has anything to do.
 pub(crate) fn settle_all<N: Nodes>(hall: &mut N) -> Result<(), RecoverFault>
-    ensures { N.goes_on hall.old hall.new }
+    ensures goes_on { N.goes_on hall.old hall.new }
+    ensures calm { OnOk result ((n : ℕ) → 1 ≤ n → n ≤ N.node_count hall.new
+        → N.work_of hall.new n ≡ no_work) }
 {
     for _ in 0..MOST_ROUNDS {
         if settle(hall, FIRST_NODE)? {

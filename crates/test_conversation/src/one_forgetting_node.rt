@@ -1,6 +1,4 @@
 //! The desk of a hall of one node, which forgets.
-ghost use Rattle.forgetting_hall.specs.Handing.{reply_of};
-
 use crate::driven_desk::DrivenDesk;
 use ballot::Members;
 use bean_words::{Op, Reply};
@@ -36,22 +34,29 @@ impl<O: Object> OneForgettingNode<O> {
 impl<O: Object<Op = Op, Reply = Reply>> Desk for OneForgettingNode<O> {
     type Ticket = LeanTicket;
 
+    ghost use Rattle.conversation.specs.Tickets.{last_lean_key};
+    ghost use Rattle.forgetting_hall.specs.Handing.{reply_to};
+
     ghost submits = { λ _ _ _ _ _. Unit {0} };
 
-    ghost to_note = { λ d t. reply_of d.hall t.session };
+    ghost to_note = { λ desk ticket. reply_to desk.hall (last_lean_key ticket) };
 
     fn submit(&mut self, ticket: &mut LeanTicket, act: Act<Op>) -> Result<(), HallError> {
         if self.refuses {
             self.refuses = false;
             return Err(HallError::OutOfMemory);
         }
-        self.hall.submit(ticket.session(), act, 1)?;
+        let last = ticket.last_key();
+        if self.hall.last_number(last.session) != last.number {
+            return Err(HallError::BadNumber);
+        }
+        self.hall.submit(last.session, act, 1)?;
         ticket.hand_in();
         Ok(())
     }
 
     fn note(&self, ticket: &mut LeanTicket) -> Result<bool, AllocError> {
-        let Some(reply) = self.hall.reply(ticket.session()) else {
+        let Some(reply) = self.hall.reply_to(ticket.last_key()) else {
             return Ok(false);
         };
         ticket.note(reply.copy()?);

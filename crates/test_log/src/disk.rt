@@ -85,4 +85,8 @@ impl Durable for Disk {
         self.kept = self.bytes.len();
         Ok(())
     }
+
+    fn size(&self) -> io::Result<u64> {
+        Ok(self.bytes.len() as u64)
+    }
 }

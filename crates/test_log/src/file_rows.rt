@@ -2,7 +2,7 @@
 use crate::text::{ENDS, TEXT, commands, lines_within};
 use ballot::Members;
 use command_log::LogFault;
-use log_file::{OpenFault, ReadFault, open_log};
+use log_file::{KeepFault, OpenFault, ReadFault, open_log};
 use std::fs;
 use std::fs::File;
 use std::os::unix::fs::MetadataExt;
@@ -107,6 +107,49 @@ fn another_file_is_left_as_it_is(rt: HostRuntime) -> Result<(), Fail> {
         )
     );
     assert_eq!(rt; left.as_slice(), b"beanpax-dump 1\n".as_slice());
+    Ok(())
+}
+
+#[test]
+fn a_text_that_begins_as_a_head_does_is_left_as_it_is(rt: HostRuntime) -> Result<(), Fail> {
+    let members = Members::new(3).ok_or("no members")?;
+    fs::write(&rt, "notes.log", b"beanpax-log 1 my notes")?;
+    let told = open_log(&rt, "notes.log", members);
+    let left = fs::read(&rt, "notes.log")?;
+    fs::remove_file(&rt, "notes.log")?;
+    assert!(rt;
+        matches!(
+            told,
+            Err(OpenFault::Unread(ReadFault::NoLog(LogFault::BadHead)))
+        )
+    );
+    assert_eq!(rt; left.as_slice(), b"beanpax-log 1 my notes".as_slice());
+    Ok(())
+}
+
+#[test]
+fn a_file_that_another_cut_off_is_noticed(rt: HostRuntime) -> Result<(), Fail> {
+    let mut opened = open_log(&rt, "cut.log", Members::new(3).ok_or("no members")?)?;
+    let commands = commands(rt.alloc())?;
+    opened
+        .log
+        .note(commands.as_slice().first().ok_or("no command")?)?;
+    opened.log.keep()?;
+    fs::write(&rt, "cut.log", b"")?;
+    opened
+        .log
+        .note(commands.as_slice().get(1).ok_or("no command")?)?;
+    let told = opened.log.keep();
+    fs::remove_file(&rt, "cut.log")?;
+    assert!(rt; matches!(told, Err(KeepFault::Changed)));
+    Ok(())
+}
+
+#[test]
+fn a_device_is_no_log(rt: HostRuntime) -> Result<(), Fail> {
+    let members = Members::new(3).ok_or("no members")?;
+    let told = open_log(&rt, "/dev/null", members);
+    assert!(rt; matches!(told, Err(OpenFault::NotAFile)));
     Ok(())
 }
 

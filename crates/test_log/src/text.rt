@@ -5,10 +5,10 @@ use std::alloc::Global;
 use std::test::Fail;
 
 pub(crate) const TEXT: &[u8] =
-    b"beanpax-log 1 1 1 1\n0 5 tick 562a2e4c\n1 1 put 0 0 9 78 fa47b1fd\n2 3 close d8945d41\n";
+    b"beanpax-log 2 1 1 1\n0 5 tick 2633a4e6 ee2140b6\n1 1 put 0 0 9 78 ee2140b6 330e09b8\n2 3 close 330e09b8 273c5c52\n";
 
 /// How many bytes its head has, and its beginnings that end with its first, second and third command.
-pub(crate) const ENDS: [usize; 4] = [20, 38, 64, 83];
+pub(crate) const ENDS: [usize; 4] = [20, 47, 82, 110];
 
 fn command(session: u32, number: u64, act: Act<Op>) -> Result<Command<Op>, Fail> {
     Ok(Command::new(Key { session, number }, act).ok_or("no command")?)

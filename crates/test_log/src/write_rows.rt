@@ -64,8 +64,10 @@ fn nothing_is_written_before_it_is_kept(rt: HostRuntime) -> Result<(), Fail> {
 
 #[test]
 fn a_log_goes_on_behind_what_was_kept(rt: HostRuntime) -> Result<(), Fail> {
+    let mut head = TEXT.get(..ENDS[0]).ok_or("no head")?;
+    let chain = read_log(rt.alloc(), &mut head)?.whole.chain;
     let disk = Disk::new(rt.alloc(), 9, NEVER, ErrorKind::Other);
-    let mut log = LogWriter::resume(rt.alloc(), disk);
+    let mut log = LogWriter::resume(rt.alloc(), disk, 0, chain);
     assert!(rt; !log.has_batch());
     let commands = commands(rt.alloc())?;
     assert!(rt; keep_these(&mut log, commands.as_slice().get(..1).unwrap_or(&[]))?);
@@ -101,7 +103,7 @@ fn has_kept(alloc: Global, disk: &Disk, kept: usize) -> bool {
 #[test]
 fn a_failure_at_any_call_is_the_end(rt: HostRuntime) -> Result<(), Fail> {
     let commands = commands(rt.alloc())?;
-    for failing in 0..12 {
+    for failing in 0..15 {
         let disk = Disk::new(rt.alloc(), 10, failing, ErrorKind::StorageFull);
         let mut log = begin(rt.alloc(), disk)?;
         let kept = keep_by_turns(rt.alloc(), &mut log)?;
@@ -133,13 +135,31 @@ fn a_failure_is_told(rt: HostRuntime) -> Result<(), Fail> {
 
 #[test]
 fn an_interrupted_write_is_tried_again(rt: HostRuntime) -> Result<(), Fail> {
-    // Each of these calls is a write: two of the head, two of the first command, five of the others.
-    for failing in [0, 1, 3, 4, 6, 7, 8, 9, 10] {
+    // Each of these calls is a write: two of the head, three of the first command, seven of the others.
+    for failing in [0, 1, 3, 4, 5, 7, 8, 9, 10, 11, 12, 13] {
         let disk = Disk::new(rt.alloc(), 10, failing, ErrorKind::Interrupted);
         let mut log = begin(rt.alloc(), disk)?;
         let kept = keep_by_turns(rt.alloc(), &mut log)?;
         assert_eq!(rt; kept, 3);
         assert_eq!(rt; log.writer().kept(), TEXT);
+    }
+    Ok(())
+}
+
+#[test]
+fn a_disk_of_another_size_is_noticed(rt: HostRuntime) -> Result<(), Fail> {
+    let mut head = TEXT.get(..ENDS[0]).ok_or("no head")?;
+    let chain = read_log(rt.alloc(), &mut head)?.whole.chain;
+    let commands = commands(rt.alloc())?;
+    for len in [1, 20, 1000] {
+        // it is empty, though the log has so many bytes
+        let disk = Disk::new(rt.alloc(), 5000, NEVER, ErrorKind::Other);
+        let mut log = LogWriter::resume(rt.alloc(), disk, len, chain);
+        for command in commands.as_slice() {
+            log.note(command)?;
+        }
+        assert!(rt; matches!(log.keep(), Err(KeepFault::Changed)), "{len}");
+        assert!(rt; takes_nothing(&mut log, commands.as_slice()), "{len}");
     }
     Ok(())
 }

@@ -49,12 +49,12 @@ fn a_port_that_is_taken_is_told(rt: HostRuntime) -> Result<(), Fail> {
     let line = format!(in rt.alloc(); "serve --port {port}")?;
     let words = words(rt.alloc(), line.as_str())?;
     let ended = start(&rt, words.as_slice());
+    let told = format!(in rt.alloc();
+        "beanpax: 127.0.0.1:{port}: Address already in use (os error 98)\nbeanpax: 12 cannot listen\n"
+    )?;
     assert_eq!(rt; ended.status, 1);
     assert!(rt; ended.output.bytes().is_empty());
-    assert_eq!(rt;
-        ended.errors.bytes(),
-        b"beanpax: 12 cannot listen\n".as_slice()
-    );
+    assert_eq!(rt; ended.errors.bytes(), told.as_bytes());
     Ok(())
 }
 

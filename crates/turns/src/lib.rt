@@ -3,11 +3,13 @@
 //! may befall the nodes of a hall.
 #![tactic(auto)]
 
+mod going;
 mod mishap;
 mod nodes;
 mod settling;
 mod watch;
 
+pub use going::halls_go_on;
 pub use mishap::{Mishap, befall};
 pub use nodes::Nodes;
 pub use settling::settle;

@@ -1,4 +1,5 @@
-ghost use Rattle.std.specs.Prelude.{◌≡◌};
+ghost use Rattle.std.specs.Prelude.{◌≡◌, ◌≤◌, ℕ, Ok, true, false};
+ghost use Rattle.turns.specs.Working.{no_work};
 
 use crate::nodes::Nodes;
 use hall::HallError;
@@ -9,14 +10,21 @@ const MOST_IN_A_TURN: u32 = 64;
 /// So many turns are taken before others may have the lock.
 const MOST_TURNS: u32 = 1024;
 
-/// Takes the nodes' turns, one after the other from this one on, until none has anything to do. Answers false where something
-/// is left after so many turns that others are to have the lock.
+/// Takes the nodes' turns, one after the other from this one on, or from the first where there is no such node, until none has
+/// anything to do. Answers false where something is left after so many turns that others are to have the lock.
 pub fn settle<N: Nodes>(nodes: &mut N, first: u8) -> Result<bool, HallError>
     ensures kept { N.handed_in nodes.new ≡ N.handed_in nodes.old }
     ensures goes_on { N.goes_on nodes.old nodes.new }
+    ensures calm { result ≡ Ok true → (n : ℕ) → 1 ≤ n → n ≤ N.node_count nodes.new →
+        N.work_of nodes.new n ≡ no_work }
 {
     let count = nodes.count();
-    let mut node = first;
+    let mut node = if (1..=count).contains(&first) {
+        first
+    } else {
+        1
+    };
+    // So many nodes before this one had nothing to do when they had their turn, and nothing was done since.
     let mut calm = 0u8;
     for _ in 0..MOST_TURNS {
         if take_turn(nodes, node)? {
@@ -37,6 +45,8 @@ pub fn settle<N: Nodes>(nodes: &mut N, first: u8) -> Result<bool, HallError>
 fn take_turn<N: Nodes>(nodes: &mut N, node: u8) -> Result<bool, HallError>
     ensures kept { N.handed_in nodes.new ≡ N.handed_in nodes.old }
     ensures goes_on { N.goes_on nodes.old nodes.new }
+    ensures idle { result ≡ Ok false → N.work_of nodes.old node ≡ no_work }
+    ensures calm { result ≡ Ok false → N.work_of nodes.new ≡ N.work_of nodes.old }
 {
     let has_proposed = propose(nodes, node)?;
     let has_received = receive(nodes, node)?;
@@ -48,6 +58,8 @@ fn take_turn<N: Nodes>(nodes: &mut N, node: u8) -> Result<bool, HallError>
 fn propose<N: Nodes>(nodes: &mut N, node: u8) -> Result<bool, HallError>
     ensures kept { N.handed_in nodes.new ≡ N.handed_in nodes.old }
     ensures goes_on { N.goes_on nodes.old nodes.new }
+    ensures idle { result ≡ Ok false → (N.work_of nodes.old node).request ≡ false }
+    ensures calm { result ≡ Ok false → N.work_of nodes.new ≡ N.work_of nodes.old }
 {
     for count in 0..MOST_IN_A_TURN {
         if !nodes.propose(node)? {
@@ -61,6 +73,8 @@ fn propose<N: Nodes>(nodes: &mut N, node: u8) -> Result<bool, HallError>
 fn receive<N: Nodes>(nodes: &mut N, node: u8) -> Result<bool, HallError>
     ensures kept { N.handed_in nodes.new ≡ N.handed_in nodes.old }
     ensures goes_on { N.goes_on nodes.old nodes.new }
+    ensures idle { result ≡ Ok false → (N.work_of nodes.old node).mail ≡ false }
+    ensures calm { result ≡ Ok false → N.work_of nodes.new ≡ N.work_of nodes.old }
 {
     for count in 0..MOST_IN_A_TURN {
         if !nodes.deliver(node)? {
@@ -74,6 +88,8 @@ fn receive<N: Nodes>(nodes: &mut N, node: u8) -> Result<bool, HallError>
 fn perform<N: Nodes>(nodes: &mut N, node: u8) -> Result<bool, HallError>
     ensures kept { N.handed_in nodes.new ≡ N.handed_in nodes.old }
     ensures goes_on { N.goes_on nodes.old nodes.new }
+    ensures idle { result ≡ Ok false → (N.work_of nodes.old node).decision ≡ false }
+    ensures calm { result ≡ Ok false → N.work_of nodes.new ≡ N.work_of nodes.old }
 {
     for count in 0..MOST_IN_A_TURN {
         if !nodes.perform(node)? {

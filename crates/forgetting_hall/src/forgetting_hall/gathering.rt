@@ -1,4 +1,4 @@
-ghost use Rattle.std.specs.Prelude.{◌≡◌, ◌<◌, ◌++◌, [], true, None, IsSome, IsOk, IfOk, OnOk, if◌then◌else◌, vec_len, vec_capacity};
+ghost use Rattle.std.specs.Prelude.{◌≡◌, ◌<◌, ◌++◌, [], true, None, IsSome, IsOk, IfOk, OnOk, if◌then◌else◌, length, vec_len, vec_capacity};
 ghost use Rattle.std.specs.Option.{option_copied, option_to_list};
 ghost use Rattle.ballot.specs.Members.{is_member};
 ghost use Rattle.slot_log.specs.Decisions.{next_decided};
@@ -33,6 +33,13 @@ impl<O: Object> ForgettingHall<O> {
             ≡ record self.old { gathering = record self.old.gathering { commands = [] } } }
     {
         replace(&mut self.gathered, Vec::new(self.alloc))
+    }
+
+    /// How many commands took effect since it was asked for them last, as far as the hall gathers them.
+    pub fn gathered_count(&self) -> usize
+        ensures { result ≡ length self.now.gathering.commands }
+    {
+        self.gathered.len()
     }
 
     // A copy of the command that takes effect as the node does this, where the hall gathers them.

@@ -1,4 +1,4 @@
-ghost use Rattle.std.specs.Prelude.{◌≡◌, ◌&&◌, not, length, is_some, if◌then◌else◌, None, Some};
+ghost use Rattle.std.specs.Prelude.{◌≡◌, ◌<◌, ◌^◌, ◌&&◌, not, length, is_some, if◌then◌else◌, None, Some};
 ghost use Rattle.std.specs.Option.{option_copied};
 ghost use Rattle.std.specs.FinMap.{get};
 ghost use Rattle.slot_log.specs.Decisions.{next_decided, undecided};
@@ -12,7 +12,7 @@ ghost use Rattle.agreement.specs.Runs.{IsWorld};
 ghost use Rattle.agreement.specs.Worlds.{World};
 ghost use Rattle.forgetting_hall.specs.Clients.{CountsPlaced};
 ghost use Rattle.forgetting_hall.specs.Halls.{rest_of_hall};
-ghost use Rattle.forgetting_hall.specs.Handing.{last_of, reply_of, second_of};
+ghost use Rattle.forgetting_hall.specs.Handing.{last_of, last_number_of, reply_of, reply_to, second_of};
 ghost use Rattle.forgetting_hall.specs.Rests.{ShowsWorld, IsReplyInOrder};
 ghost use Rattle.forgetting_hall.specs.Refusing.{is_foreign};
 
@@ -21,7 +21,7 @@ use crate::halls::halls_rest;
 use ballot::{Members, Slot};
 use client_table::Client;
 use hall::Work;
-use object::{Command, Object};
+use object::{Command, Key, Object};
 
 /// Look-ups, which take no memory.
 impl<O: Object> ForgettingHall<O> {
@@ -55,6 +55,34 @@ impl<O: Object> ForgettingHall<O> {
     {
         halls_rest::<O>();
         self.clients.client(session)?.reply.as_ref()
+    }
+
+    /// The reply to the command of this key, where it is the last one of its session and was answered. One order explains it
+    /// with all else that happened.
+    pub fn reply_to(&self, key: Key) -> Option<&O::Reply>
+        ensures reply { option_copied result ≡ reply_to self.now key }
+        ensures legal { (w : World O.Op O.Reply) (reply : O.Reply) → IsWorld O.rules w
+            → ShowsWorld O.rules (rest_of_hall O.rules self.now) w
+            → reply_to self.now key ≡ Some reply → (c : Command O.Op) × (c.key ≡ key) × IsReplyInOrder O.rules O.promise w c reply }
+    {
+        halls_rest::<O>();
+        let last = self.last(key.session)?;
+        if last.key() != key {
+            return None;
+        }
+        self.reply(key.session)
+    }
+
+    /// The number of a session's last command, 0 where there is none. The clock is session 0, and its numbers are seconds.
+    pub fn last_number(&self, session: u32) -> u64
+        ensures number { result ≡ last_number_of self.now session }
+        ensures low { result < 2 ^ 62 }
+    {
+        let _ = &self.clients;
+        match self.last(session) {
+            None => 0,
+            Some(command) => command.key().number,
+        }
     }
 
     /// What a node has to do: nothing where it isn't a member.

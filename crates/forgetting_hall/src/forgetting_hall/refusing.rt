@@ -1,6 +1,5 @@
 ghost use Rattle.std.specs.Prelude.{◌≡◌};
 ghost use Rattle.hall.specs.Tickets.{is_close, is_tick};
-ghost use Rattle.forgetting_hall.specs.Handing.{last_number_of};
 ghost use Rattle.forgetting_hall.specs.Refusing.{is_foreign, has_all_events, is_session, is_behind_last, keeps_waiting, refusal_of_event, refusal_of_keyed, refusal_of_submit, refusal_of_resubmit, refusal_of_tick};
 ghost use Rattle.std.specs.FinMap.{get};
 
@@ -103,16 +102,6 @@ impl<O: Object> ForgettingHall<O> {
         ensures { result ≡ is_foreign self.now node }
     {
         !self.network.members().has(node)
-    }
-
-    // The number of a session's last command, 0 where there is none.
-    pub(super) fn last_number(&self, session: u32) -> u64
-        ensures { result ≡ last_number_of self.now session }
-    {
-        match self.last(session) {
-            None => 0,
-            Some(command) => command.key().number,
-        }
     }
 
     // No event more is taken.

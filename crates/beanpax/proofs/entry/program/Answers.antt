@@ -2,12 +2,13 @@ use Rattle.std.proofs.Common.{◌≡◌, inl, inr, ℕ, [], map, string_bytes, r
 use Rattle.std.specs.Io.KnownBytes.{Appends}
 use Rattle.bean_codec.specs.declared.profile.Profile.{Profile}
 use Rattle.beanpax.specs.declared.faults.ProgramFault.{ProgramFault}
+use Rattle.beanpax.specs.declared.faults.ProgramFault.TheVariants.{OutOfMemory}
 use Rattle.std.proofs.KnownBytes.{Appends-nil, Consumes-nil}
 use Rattle.beanpax.specs.Program.{AnswersToSomeEnd, HasInspected, IsWholeRun, WritesText}
 use Rattle.beanpax.specs.Runs.{TellsBeginning}
 use Rattle.options.specs.Words.{IsAskedBy, profile_asked}
 use Rattle.beanpax.proofs.Served.{nothing_begins}
-use Rattle.beanpax.proofs.Serving.{tells_fault}
+use Rattle.beanpax.proofs.Serving.{run_caused, shown_caused, tells_alone, tells_fault}
 use Rattle.beanpax.proofs.entry.program.Goals as goal
 
 pub returns-in-Ok-Inspect-clause-right : goal.returns-in-Ok-Inspect-clause-right
@@ -17,7 +18,7 @@ returns-in-Ok-Inspect-clause-right g c = λ done.
     (HasInspected (g.W.ByteOut.contents c.args.output.now) (g.W.ByteOut.contents c.inspect_file-found.new.output)))
     r.1 c.inspect_file-found.ensures.ok in
     let asked = subst (IsAskedBy (map string_bytes c.args.words.now)) c.in-Ok-Inspect.field-0-is c.in-Ok-Inspect.ensures in
-    inr (inr (inr (c.in-Ok-Inspect.file.now, asked, (r.0, r.2, told), refl)))
+    inr (inr (inr (inr (c.in-Ok-Inspect.file.now, asked, (r.0, r.2, told), refl))))
 
 pub returns-in-Err-clause-breaks_off : goal.returns-in-Err-clause-breaks_off
 returns-in-Err-clause-breaks_off g c = λ fault run.
@@ -74,7 +75,7 @@ returns-in-Ok-Help-clause-right g c = λ done.
         string_bytes c.in-Ok-Help.text,
         asked.1,
         subst (Appends _ _) c.as_str.ensures.value
-            (ok_told c.show_help-shown.result _ _ _ c.show_help-shown.ensures.ok c.status_after-in-Ok-Help.ensures.fault
+            (ok_told c.show_text-shown.result _ _ _ c.show_text-shown.ensures.ok c.status_after-in-Ok-Help.ensures.fault
             done),
       ),
       refl,
@@ -99,5 +100,40 @@ returns-in-Ok-Serve-clause-fault g c = λ failed.
     let words = map string_bytes c.args.words.now in
     let asked = subst (IsAskedBy words) c.in-Ok-Serve.field-0-is c.in-Ok-Serve.ensures in
     tells_fault words c.in-Ok-Serve.options _ _ g.E.ByteOut c.args.errors.now c.serve_tcp-ended.new.errors c.status_after-in-Ok-Serve.new.errors
-    c.serve_tcp-ended.result c.status_after-in-Ok-Serve.result asked c.serve_tcp-ended.ensures.fault c.serve_tcp-ended.ensures.log
+    c.serve_tcp-ended.result c.status_after-in-Ok-Serve.result asked c.serve_tcp-ended.ensures.fault c.serve_tcp-ended.ensures.told
     c.status_after-in-Ok-Serve.ensures.done c.status_after-in-Ok-Serve.ensures.fault failed
+
+pub returns-in-Ok-Run-clause-fault : goal.returns-in-Ok-Run-clause-fault
+returns-in-Ok-Run-clause-fault g c = λ failed.
+    let words = map string_bytes c.args.words.now in
+    let asked = subst (IsAskedBy words) c.in-Ok-Run.field-0-is c.in-Ok-Run.ensures in
+    tells_alone words _ _ g.E.ByteOut c.args.errors.now c.status_after.new.errors c.run-ended.result c.status_after.result
+    (run_caused words _ _ g.E.ByteOut c.args.errors.now c.run-ended.result asked.0 c.run-ended.ensures.err)
+    c.status_after.ensures.done c.status_after.ensures.fault failed
+
+pub returns-in-Ok-Help-clause-fault : goal.returns-in-Ok-Help-clause-fault
+returns-in-Ok-Help-clause-fault g c = λ failed.
+    let words = map string_bytes c.args.words.now in
+    tells_alone words _ _ g.E.ByteOut c.args.errors.now c.status_after-in-Ok-Help.new.errors c.show_text-shown.result c.status_after-in-Ok-Help.result
+    (shown_caused words _ _ g.E.ByteOut c.args.errors.now c.show_text-shown.result c.show_text-shown.ensures.fault c.show_text-shown.ensures.write_failed)
+    c.status_after-in-Ok-Help.ensures.done c.status_after-in-Ok-Help.ensures.fault failed
+
+pub returns-in-Ok-Version-clause-fault : goal.returns-in-Ok-Version-clause-fault
+returns-in-Ok-Version-clause-fault g c = λ failed.
+    let words = map string_bytes c.args.words.now in
+    tells_alone words _ _ g.E.ByteOut c.args.errors.now c.status_after-in-Ok-Version.new.errors c.show_text-shown-in-Ok-Version.result
+    c.status_after-in-Ok-Version.result
+    (shown_caused words _ _ g.E.ByteOut c.args.errors.now c.show_text-shown-in-Ok-Version.result c.show_text-shown-in-Ok-Version.ensures.fault
+    c.show_text-shown-in-Ok-Version.ensures.write_failed)
+    c.status_after-in-Ok-Version.ensures.done c.status_after-in-Ok-Version.ensures.fault failed
+
+pub returns-in-Err-clause-fault : goal.returns-in-Err-clause-fault
+returns-in-Err-clause-fault g c = λ failed. (
+  OutOfMemory,
+  c.args.errors.now,
+  c.args.errors.now,
+  tt,
+  record { more = inl refl; silent = λ none. refl },
+  refl,
+  c.status_after-in-Err.ensures.fault.1,
+)

@@ -1,6 +1,8 @@
 use Rattle.std.proofs.Common.{◌≡◌, ◌≤◌, ◌++◌, length, take, subst}
 use Rattle.std.proofs.lemmas.List.{take_all}
+use Rattle.forgetting_hall.specs.Handing.{second_of}
 use Rattle.forgetting_hall.specs.Telling.{HasTold}
+use Rattle.recovery.specs.Clocks.{last_second_in}
 use Rattle.recovery.specs.Obeyed.{HasReplayed}
 use Rattle.recovery.specs.Opened.{EndsAll}
 use Rattle.beanpax.proofs.Starts.{behind_is, more_told, still_inside, taken_more}
@@ -51,3 +53,8 @@ returns-clause-counted g c =
 
 pub returns-clause-settled : goal.returns-clause-settled
 returns-clause-settled g c = c.in_ok-finish.ensures.settled c.args.members _ c.loop-done.invariant.1
+
+pub returns-clause-second : goal.returns-clause-second
+returns-clause-second g c =
+    subst (λ cs. second_of c.in_ok-finish.field-0.hall ≡ last_second_in cs) (take_all c.loop-done.done c.args.commands.now c.loop-done-test.false)
+    (c.in_ok-finish.ensures.second c.args.members _ c.loop-done.invariant.1)

@@ -3,8 +3,11 @@ use Rattle.std.specs.Io.KnownBytes.{Consumes}
 use Rattle.object.specs.declared.command.Command.{Command}
 use Rattle.bean_words.specs.declared.op.Op.{Op}
 use Rattle.command_log.specs.declared.reader.LogReader.{LogReader}
-use Rattle.log_file.proofs.Recovering.{IsReadTo, at_end, goes_on, is_too_long, of_reading, tells_fault, tells_log}
+use Rattle.log_file.proofs.Recovering.{IsReadTo, at_end, goes_on, is_too_long, of_reading, started, tells_fault, tells_log}
 use Rattle.log_file.proofs.reader.read_by.Goals as goal
+
+pub loop-log-init : goal.loop-log-init
+loop-log-init g c = record { some = search rules; read = started _ _ _ c.new-commands.ensures.items c.new-log.ensures }
 
 pub returns-in_default-clause-fault : goal.returns-in_default-clause-fault
 returns-in_default-clause-fault g c =

@@ -1,7 +1,7 @@
-use Rattle.std.proofs.Common.{◌≡◌, ◌∙◌, true, false, [], codes, map, string_bytes, unwrap_or, refl, sym, ap}
+use Rattle.std.proofs.Common.{◌≡◌, ◌∙◌, true, false, [], codes, map, string_bytes, unwrap_or, inl, inr, refl, sym, ap}
 use Rattle.std.proofs.lemmas.Result.{IfOk-weaker}
 use Rattle.clap.specs.Words.{App, IsAmong, found_of, has_subcommand}
-use Rattle.clap.specs.declared.error.kind.ErrorKind.TheVariants.{DisplayHelp}
+use Rattle.clap.specs.declared.error.kind.ErrorKind.TheVariants.{DisplayHelp, DisplayVersion}
 use Rattle.clap.proofs.CallerLemmas.{subcommand_required}
 use Rattle.options.specs.Words.{AskFor, AskForRun, program_command}
 use Rattle.options.proofs.CommandLemmas.{command_given-of, meets_one, met_by, run_asked, run_same, serve_asked, serve_same, text_given-of, word_given-of}
@@ -73,6 +73,7 @@ unreachable-requires c =
     meets_one words c.in-Ok.matches (holds_of_errors (λ kinds. kinds ≡ []) _ _ is_program c.in-Ok.ensures.kinds)
     (met_by _ words c.in-Ok.matches is_program c.in-Ok.ensures.matches) met
     (λ e. never (c.in_default.ensures.found.1 e)) (λ e. never (c.in_default-subcommand_matches.ensures.found.1 e)) (λ e. never (c.in-None.ensures.found.1 e))
+    (λ e. never (sym c.if-is_some.false ∙ c.is_some.ensures ∙ c.subcommand_matches-in-Ok-2.ensures.found.1 e))
 
 pub returns-in-DisplayHelp : goal.returns-in-DisplayHelp
 returns-in-DisplayHelp c = (
@@ -86,8 +87,25 @@ returns c = (
   (
     c.kind.result,
     c.in_default-kind.not-DisplayHelp,
+    c.in_default-kind.not-DisplayVersion,
     holds_of_errors (λ kinds. IsAmong c.kind.result kinds) _ _ c.in_ok-program_words.ensures.app
         (λ simple. among_errors _ _ c.in-Err.error c.kind.ensures c.in_default-kind.not-OutOfMemory (c.in-Err.ensures.kinds simple)),
   ),
   c.in_ok-text_of-in_default-kind.ensures,
 )
+
+pub returns-then-is_some : goal.returns-then-is_some
+returns-then-is_some c =
+    let is_program = c.in_ok-program_words.ensures.app in
+    let words = map string_bytes c.args.words.now in
+    let met = met_by _ words c.in-Ok.matches is_program c.in-Ok.ensures.matches in
+    inr (
+      holds_of_errors (λ kinds. kinds ≡ []) _ _ is_program c.in-Ok.ensures.kinds,
+      command_given-of words c.in-Ok.matches (codes "version") met
+          (c.subcommand_matches-in-Ok-2.ensures.found.0 (sym c.is_some.ensures ∙ c.if-is_some.true)),
+    )
+
+pub returns-in-DisplayVersion : goal.returns-in-DisplayVersion
+returns-in-DisplayVersion c =
+    inl (holds_of_errors (λ kinds. IsAmong DisplayVersion kinds) _ _ c.in_ok-program_words.ensures.app
+    (λ simple. among_errors DisplayVersion _ c.in-Err.error (sym c.in-DisplayVersion.is ∙ c.kind.ensures) (λ e. cc) (c.in-Err.ensures.kinds simple)))

@@ -7,7 +7,7 @@ use Rattle.options.specs.Words.{program_command}
 use Rattle.options.proofs.words.program_words.Goals as goal
 
 abbrev named : App
-named = let app = new_app (codes "beanpax") in record app { top = record app.top { subcommand_required = true } }
+named = let app = new_app (codes "beanpax") in record app { top = record app.top { has_version = true; subcommand_required = true } }
 
 pub returns-clause-app : goal.returns-clause-app
 unfolding program_command
@@ -18,9 +18,11 @@ returns-clause-app c =
     ∙ ap₂ with_subcommand named_is (ap (λ (a : App). a.top) c.in_ok-run_words.ensures.app) in
     let serve_is = c.in_ok-subcommand-2.ensures.shape c.in_ok-serve_words.ensures.no_globals
     ∙ ap₂ with_subcommand run_is (ap (λ (a : App). a.top) c.in_ok-serve_words.ensures.app) in
-    IfOk-weaker c.subcommand-3.result _ _
-    (λ r adds. adds.shape c.in_ok-inspect_words.ensures.no_globals ∙ ap₂ with_subcommand serve_is (ap (λ (a : App). a.top) c.in_ok-inspect_words.ensures.app))
-    c.subcommand-3.ensures
+    let inspect_is = c.in_ok-subcommand-3.ensures.shape c.in_ok-inspect_words.ensures.no_globals
+    ∙ ap₂ with_subcommand serve_is (ap (λ (a : App). a.top) c.in_ok-inspect_words.ensures.app) in
+    IfOk-weaker c.subcommand-4.result _ _
+    (λ r adds. adds.shape c.version_words.ensures.no_globals ∙ ap₂ with_subcommand inspect_is (ap (λ (a : App). a.top) c.version_words.ensures.app))
+    c.subcommand-4.ensures
 
 none_global : (a b : Bool) → a ≡ false → b ≡ false → (a || b) ≡ false
 none_global a b p q = ap₂ (λ x y. x || y) p q
@@ -30,6 +32,7 @@ returns-clause-no_globals c =
     let named_local : (out-Command c.subcommand_required.result).has_globals ≡ false = search rules in
     let run_local = c.in_ok-subcommand.ensures.globals ∙ none_global _ _ named_local c.in_ok-run_words.ensures.no_globals in
     let serve_local = c.in_ok-subcommand-2.ensures.globals ∙ none_global _ _ run_local c.in_ok-serve_words.ensures.no_globals in
-    IfOk-weaker c.subcommand-3.result _ _
-    (λ r adds. adds.globals ∙ none_global _ _ serve_local c.in_ok-inspect_words.ensures.no_globals)
-    c.subcommand-3.ensures
+    let inspect_local = c.in_ok-subcommand-3.ensures.globals ∙ none_global _ _ serve_local c.in_ok-inspect_words.ensures.no_globals in
+    IfOk-weaker c.subcommand-4.result _ _
+    (λ r adds. adds.globals ∙ none_global _ _ inspect_local c.version_words.ensures.no_globals)
+    c.subcommand-4.ensures

@@ -9,4 +9,4 @@ returns-clause-told g c = λ members before has.
       gathering = record c.settle_all.new.hall.gathering
           { commands = [] };
     }) (before ++ placed)) (sym c.take_placed.ensures.placed)
-    (c.tells_in_order.ensures.takes c.settle_all.new.hall members before (c.settle_all.ensures members before has)))
+    (c.tells_in_order.ensures.takes c.settle_all.new.hall members before (c.settle_all.ensures.goes_on.tells members before has)))

@@ -1,10 +1,14 @@
-use Rattle.std.proofs.Common.{inl, inr}
-use Rattle.command_log.proofs.Endings.{says_damaged, says_otherwise, says_right, says_start, says_wrong}
+use Rattle.std.proofs.Common.{inl, inr, sym, ◌∙◌}
+use Rattle.std.proofs.lemmas.Bool.{false≢true}
+use Rattle.command_log.proofs.Endings.{says_begun, says_damaged, says_otherwise, says_right, says_unlike, says_wrong}
 use Rattle.command_log.proofs.reader.LogReader.finish.Goals as goal
 
 pub returns-in-Head-clause-fault : goal.returns-in-Head-clause-fault
-returns-in-Head-clause-fault c = λ text commands h.
-    says_start c.args.self c.deref.result.now text commands c.fault_of_start.result h c.in-Head.is c.deref.ensures.value c.fault_of_start.ensures
+returns-in-Head-clause-fault c = λ text commands h. says_begun c.args.self text commands h c.in-Head.is c.if-begun.true
+
+pub returns-in-Head-2-clause-fault : goal.returns-in-Head-2-clause-fault
+returns-in-Head-2-clause-fault c = λ text commands h.
+    says_unlike c.args.self text commands h c.in-Head.is (λ begun. false≢true (sym c.if-begun.false ∙ begun))
 
 pub returns-in-BadHead-clause-fault : goal.returns-in-BadHead-clause-fault
 returns-in-BadHead-clause-fault c = λ text commands h. says_otherwise c.args.self text commands h c.in-BadHead.is

@@ -1,7 +1,4 @@
-use Rattle.std.proofs.Common.{◌≡◌, ℕ, inl, inr, List, sym, subst}
-use Rattle.object.specs.declared.command.Command.{Command}
-use Rattle.bean_words.specs.declared.op.Op.{Op}
-use Rattle.command_log.specs.declared.stage.Stage.{Stage}
+use Rattle.std.proofs.Common.{inl, inr, sym, subst}
 use Rattle.command_log.specs.Progress.{StepsOn}
 use Rattle.command_log.proofs.Steps.{stays_bad, stays_damaged}
 use Rattle.command_log.proofs.stage.Stage.after_line.Goals as goal

@@ -29,7 +29,7 @@ invariant_of-self-2 g c =
     let none : refusal_of_tick h c.args.node ≡ None =
     subst (λ q. refusal_of_tick q c.args.node ≡ None) (sym c.self.view_is) (sym c.refusal_of_tick.ensures ∙ c.in_default.is) in
     let number : c.last_number-number.result ≡ last_number_of h 0 =
-    c.last_number-number.ensures ∙ ap (λ (q : ForgettingState _ _ _). last_number_of q 0) (sym c.self.view_is) in
+    c.last_number-number.ensures.number ∙ ap (λ (q : ForgettingState _ _ _). last_number_of q 0) (sym c.self.view_is) in
     let made = (value_if c.new.result _ _ _ c.new.ensures c.unwrap-command.ensures).1
     ∙ ap (λ n. record { key = record { session = 0; number = n + 1 }; act = Tick }) number in
     let nodes = c.in_ok-ask.ensures.ok ∙ ap (asked_lean g.O.Object.rules h.network c.args.node) (c.in_ok-copy.ensures ∙ made) in
@@ -60,7 +60,7 @@ returns g c =
     let none : refusal_of_tick h c.args.node ≡ None =
     subst (λ q. refusal_of_tick q c.args.node ≡ None) (sym c.self.view_is) (sym c.refusal_of_tick.ensures ∙ c.in_default.is) in
     let number : c.last_number-number.result ≡ last_number_of h 0 =
-    c.last_number-number.ensures ∙ ap (λ (q : ForgettingState _ _ _). last_number_of q 0) (sym c.self.view_is) in
+    c.last_number-number.ensures.number ∙ ap (λ (q : ForgettingState _ _ _). last_number_of q 0) (sym c.self.view_is) in
     let made = (value_if c.new.result _ _ _ c.new.ensures c.unwrap-command.ensures).1
     ∙ ap (λ n. record { key = record { session = 0; number = n + 1 }; act = Tick }) number in
     let nodes = c.in_ok-ask.ensures.ok ∙ ap (asked_lean g.O.Object.rules h.network c.args.node) (c.in_ok-copy.ensures ∙ made) in

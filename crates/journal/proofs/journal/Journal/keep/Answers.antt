@@ -1,12 +1,10 @@
-use Rattle.std.proofs.Common.{◌≡◌, ◌++◌, [], ap, sym, subst, ◌∙◌, append-nil}
+use Rattle.std.proofs.Common.{◌≤◌, [], length, sym, subst}
 use Rattle.log_file.specs.Logs.{HoldsLog}
-use Rattle.journal.specs.Waiting.{HoldsAll, JournalState}
+use Rattle.journal.specs.Waiting.{JournalState}
 use Rattle.journal.proofs.journal.Journal.keep.Goals as goal
 
 pub returns-clause-log : goal.returns-clause-log
 returns-clause-log g c = λ members commands holds.
-    let all = subst (λ (j : JournalState _). HoldsAll g.W.Write.contents j members commands) (sym c.self.view_is)
-    (c.note_all.ensures.log members commands holds) in
-    let none = subst (λ (j : JournalState _). j.waiting ≡ []) (sym c.self.view_is) c.in_ok-note_all.ensures.noted in
-    let is = sym (append-nil all.noted) ∙ ap (λ ws. all.noted ++ ws) (sym none) ∙ all.rest in
-    subst (HoldsLog (g.W.Write.contents c.keep.new.self.writer) [] members) is (c.in_ok-keep.ensures.log members all.noted all.log)
+    let written = subst (λ (j : JournalState _). HoldsLog (g.W.Write.contents j.log.writer) [] j.log.chain members commands × (j.written ≤ length commands))
+    (sym c.self.view_is) (c.in_ok-write.ensures.log members commands holds) in
+    (c.sync.ensures.log [] members commands written.0, written.1)

@@ -6,14 +6,16 @@ use Rattle.journal.proofs.journal.Journal.note_all.Given as goal
 pub record Noting (W : Type 0) (contents : W → Option (List ℕ)) (old new : JournalState W) : Type 0 where
   pub log : LosesNothing contents old new
   pub due : new.due ≡ old.due
-  pub kept : new.kept ≡ old.kept
+  pub written : new.written ≡ old.written
+  pub synced : new.synced ≡ old.synced
 
 abbrev pub invariant-loop-self : goal.invariant-loop-self
 invariant-loop-self g l = Noting g.row.W.Denot g.W.Write.contents l.fn.self (record {
   log = l.self-inside.log;
   waiting = drop l.self-inside.noted l.self-inside.waiting.items;
   due = l.self-inside.due;
-  kept = l.self-inside.kept;
+  written = l.self-inside.written;
+  synced = l.self-inside.synced;
 })
 
 abbrev pub decreases-loop-self : goal.decreases-loop-self

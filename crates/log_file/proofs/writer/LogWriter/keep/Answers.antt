@@ -1,10 +1,7 @@
-use Rattle.std.proofs.Common.{rules}
-use Rattle.log_file.specs.Bytes.{WritesAll}
-use Rattle.log_file.proofs.Holding.{torn_off}
+use Rattle.std.proofs.Common.{[]}
+use Rattle.log_file.proofs.Holding.{on_err}
 use Rattle.log_file.proofs.writer.LogWriter.keep.Goals as goal
 
-pub returns-in-Err-clause-torn : goal.returns-in-Err-clause-torn
-returns-in-Err-clause-torn g c =
-    let written : WritesAll (g.W.Write.contents c.args.self.now.writer) (g.W.Write.contents c.write_and_sync-result.new.writer)
-    c.args.self.now.batch c.write_and_sync-result.result = search rules in
-    torn_off _ _ _ _ written
+pub returns-clause-torn : goal.returns-clause-torn
+returns-clause-torn g c = on_err _ c.sync.result
+    (λ members commands h. ([], (c.sync.new.self.chain, c.sync.ensures.log [] members commands (c.in_ok-write.ensures.log members commands h))))

@@ -2,6 +2,7 @@ use Rattle.std.proofs.Common.{◌++◌, ap, length, append-nil, sym, subst, ◌�
 use Rattle.forgetting_hall.specs.Gathered.{Gathering}
 use Rattle.recovery.specs.Obeyed.{AreLeftOpen, RecoveryState}
 use Rattle.recovery.specs.Opened.{EndsAll}
+use Rattle.recovery.specs.Sessions.{KeepsNoneOf}
 use Rattle.recovery.proofs.recovery.Recovery.finish.Goals as goal
 
 pub loop-session-preserved : goal.loop-session-preserved
@@ -30,3 +31,8 @@ returns-clause-settled g c = λ members before has.
     let all = before ++ c.in_ok-closes.closes.items in
     c.has_settled.ensures c.if-not-has_settled.false members all
     (c.forget.ensures.told members all (c.in_ok-closes.ensures.told members before (c.loop-session.invariant members before has.told)))
+
+pub returns-clause-let_go : goal.returns-clause-let_go
+returns-clause-let_go g c =
+    subst (λ ss. KeepsNoneOf c.forget.new.hall ss) (c.deref-3.ensures.value ∙ ap (λ (r : RecoveryState _ _ _). r.sessions) c.self.view_is)
+    (c.keeps_none_of.ensures c.if-not-keeps_none_of.false)

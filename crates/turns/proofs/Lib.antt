@@ -1,0 +1,3 @@
+pub mod HallCalls
+pub mod Idle
+pub mod Round
