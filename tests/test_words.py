@@ -1,0 +1,244 @@
+"""The words of the command line, and the statuses that the program ends with."""
+
+import os
+import socket
+import subprocess
+
+from harness import Case, taken_port
+
+NO_SUCH_FILE = "No such file or directory (os error 2)"
+
+# The program may use none of these words so.
+WRONG = """
+
+frobnicate
+run now
+run --nodes
+run --nodes 0
+run --nodes 8
+run --nodes one
+run --seed -1
+run --seed 18446744073709551616
+run --seed 1 --seed 2
+run --stats --stats
+run --port 11300
+run --log a
+--nodes 1 run
+serve now
+serve --port 0
+serve --port 65536
+serve --port http
+serve --nodes 8
+serve --workers 0
+serve --workers 65
+serve --sessions 0
+serve --sessions 1000001
+serve --dump
+serve --log
+serve --log a --log b
+serve --sync -1
+serve --sync 3600001
+serve --sync 1s
+serve --stats=true
+serve --seed 1
+serve -l 127.0.0.1
+serve -p 11300
+inspect
+inspect a b
+inspect --nodes 3 a
+"""
+
+BAD_WEIGHTS = """
+run --weights 0,1
+run --weights 1,1001
+run --weights 3,01
+run --weights 3,,1
+run --weights three
+run --weights=
+run --weights 1,1,1,1,1,1,1,1
+run --weights 3,1,1 --nodes 3
+serve --nodes 1 --weights 1
+serve --weights 3;1
+"""
+
+BAD_HOSTS = """
+serve --host=
+serve --host 127.0.0.256
+serve --host 127.0.0.1:11300
+serve --host :::1
+serve --nodes 1 --host 1.2.3 --port 12000
+"""
+
+
+def lines_of(text: str) -> list[list[str]]:
+    return [line.split() for line in text[1:].splitlines()]
+
+
+class WrongWords(Case):
+    def check_wrong(self, words: list[str], text: str | None) -> None:
+        with self.subTest(words=words):
+            ended = self.program(*words, given=b"delete 9\r\n")
+            self.assertEqual((ended.status, ended.output), (2, b""))
+            if text is None:
+                self.assertIn("--help", ended.errors)
+            else:
+                self.assertEqual(ended.errors, text)
+
+    def test_wrong_words_are_told_and_nothing_is_done(self):
+        """Words that ask for nothing end with status 2, a text on the errors, and nothing on the output."""
+        for words in lines_of(WRONG):
+            self.check_wrong(words, None)
+        self.assertEqual([path.name for path in self.folder.iterdir()], [])
+
+    def test_a_value_outside_its_range_is_told(self):
+        """A value outside its range is told with the range."""
+        ended = self.program("run", "--nodes", 8)
+        self.assertEqual(ended.errors, "error: invalid value '8' for '--nodes <N>': 8 is not in 1..=7\n\n"
+                                       "For more information, try '--help'.\n")
+
+    def test_bad_weights_are_told(self):
+        """Weights that are none, or stand beside a number of nodes, are told so."""
+        for words in lines_of(BAD_WEIGHTS):
+            self.check_wrong(words, "beanpax: bad weights\n")
+
+    def test_a_bad_host_is_told(self):
+        """What is no address is told so."""
+        for words in lines_of(BAD_HOSTS):
+            self.check_wrong(words, "beanpax: bad host\n")
+
+    def test_a_word_that_is_no_text_is_wrong(self):
+        """A word that isn't UTF-8 is wrong, and nothing is done."""
+        line = [self.program_path(), b"inspect", b"\xff"]
+        done = subprocess.run(line, cwd=self.folder, capture_output=True, check=False, stdin=subprocess.DEVNULL)
+        self.assertEqual((done.returncode, done.stdout), (2, b""))
+        self.assertTrue(done.stderr)
+
+
+class Help(Case):
+    def check_help(self, words: str, *parts: str) -> None:
+        with self.subTest(words=words):
+            ended = self.program(*words.split(), given=b"delete 9\r\n")
+            self.assertEqual((ended.status, ended.errors), (0, ""))
+            for part in parts:
+                self.assertIn(part, ended.output.decode())
+
+    def test_help_names_the_commands(self):
+        """Who asks for help is told each command, with status 0."""
+        for words in ("--help", "-h", "help"):
+            self.check_help(words, "Usage: beanpax <COMMAND>", "run ", "serve ", "inspect ")
+
+    def test_help_names_the_options_of_each_command(self):
+        """The help of a command names each of its options."""
+        for words in ("run --help", "run -h", "help run"):
+            self.check_help(words, "Usage: beanpax run [OPTIONS]", "--nodes ", "--weights ", "--seed ", "--stats")
+        for words in ("serve --help", "serve -h", "help serve"):
+            self.check_help(words, "Usage: beanpax serve [OPTIONS]", "--host ", "--port ", "--nodes ", "--weights ", "--workers ",
+                            "--sessions ", "--dump ", "--log ", "--sync ", "--stats")
+        for words in ("inspect --help", "inspect -h", "help inspect"):
+            self.check_help(words, "Usage: beanpax inspect <FILE>")
+
+    def test_help_without_room_is_a_fault(self):
+        """Help that can't be written ends with status 1 and the fault."""
+        with open("/dev/full", "wb") as full:
+            ended = self.program("--help", stdout=full)
+        self.assert_fault(ended, "8 write failed")
+
+    def test_the_version_is_told(self):
+        """Who asks for the version, in any of three ways, is told the program's name and its number."""
+        for words in ("--version", "-V", "version"):
+            with self.subTest(words=words):
+                ended = self.program(words)
+                self.assertEqual((ended.status, ended.output, ended.errors), (0, b"beanpax 0.1.0\n", ""))
+
+
+class Faults(Case):
+    def test_a_missing_file_is_told(self):
+        """A file to be inspected that isn't there ends the program with status 1 and the fault."""
+        (self.folder / "file").touch()
+        for path in ("missing", ".", "file/missing", "no/such/folder"):
+            with self.subTest(path=path):
+                self.assert_fault(self.program("inspect", path), "13 file failed")
+
+    def test_a_missing_file_is_told_with_the_reason(self):
+        """Before the fault stand the path and the system's reason."""
+        self.assert_reason(self.program("inspect", "missing"), "missing", NO_SUCH_FILE)
+        self.assert_reason(self.program("inspect", "."), ".", "Is a directory (os error 21)")
+
+    def test_a_taken_port_is_told(self):
+        """A server whose port somebody else has ends with status 1 and the fault."""
+        with taken_port() as port:
+            self.assert_fault(self.program("serve", "--port", port), "12 cannot listen")
+
+    def test_a_taken_port_is_told_with_the_reason(self):
+        """Before the fault stand the address and the system's reason."""
+        with taken_port() as port:
+            ended = self.program("serve", "--port", port)
+        self.assert_reason(ended, f"127.0.0.1:{port}", "Address already in use (os error 98)")
+
+    def test_an_address_of_another_machine_is_told(self):
+        """A server can't listen at an address that isn't the machine's, and warns before that it would be open to others."""
+        ended = self.program("serve", "--host", "192.0.2.1")
+        self.assert_fault(ended, "12 cannot listen")
+        self.assertEqual(ended.errors.splitlines()[0], "beanpax: whoever reaches this address may use the queue")
+
+    def test_an_address_of_another_machine_is_told_with_the_reason(self):
+        """Before the fault stand the address and the system's reason."""
+        ended = self.program("serve", "--host", "192.0.2.1", "--port", 12_000)
+        self.assert_reason(ended, "192.0.2.1:12000", "Cannot assign requested address (os error 99)")
+
+    def test_who_listens_for_other_machines_is_warned(self):
+        """A server that other machines could reach is told of, before it tries to listen. Here it can't listen."""
+        with taken_port() as port:
+            for host in ("0.0.0.0", "128.0.0.1", "::2"):
+                with self.subTest(host=host):
+                    ended = self.program("serve", "--host", host, "--port", port)
+                    self.assert_fault(ended, "12 cannot listen")
+                    self.assertEqual(ended.errors.splitlines()[0], "beanpax: whoever reaches this address may use the queue")
+
+    def test_who_listens_at_the_loopback_is_not_warned(self):
+        """A server that the machine's own clients alone can reach is told of nothing."""
+        with taken_port() as port:
+            ended = self.program("serve", "--host", "127.0.0.1", "--port", port)
+        self.assert_fault(ended, "12 cannot listen")
+        self.assertNotIn("whoever", ended.errors)
+
+    def test_a_taken_port_leaves_log_and_dump_alone(self):
+        """A server that can't listen touches no file: an older dump and an older log stay, and no new one begins."""
+        for name in ("older.dump", "older.log"):
+            (self.folder / name).write_bytes(b"older\n")
+        with taken_port() as port:
+            for age in ("older", "new"):
+                self.assert_fault(self.program("serve", "--sessions", 1, "--port", port, "--dump", f"{age}.dump",
+                                               "--log", f"{age}.log"), "12 cannot listen")
+        found = {path.name: path.read_bytes() for path in self.folder.iterdir()}
+        self.assertEqual(found, {"older.dump": b"older\n", "older.log": b"older\n"})
+
+    def test_a_taken_port_is_free_again_once_its_owner_has_gone(self):
+        """A port is free again at once when its server has gone, though clients were connected."""
+        first = self.serve()
+        client = self.client(first)
+        client.use("a")
+        first.kill()
+        second = self.serve(port=first.port)
+        self.client(second).use("a")
+
+    def test_an_output_without_room_is_a_fault(self):
+        """A server that can't tell where it listens ends with status 1 and the fault."""
+        with socket.create_server(("127.0.0.1", 0)) as listener:
+            port = listener.getsockname()[1]
+        with open("/dev/full", "wb") as full:
+            ended = self.program("serve", "--sessions", 1, "--port", port, stdout=full)
+        self.assert_fault(ended, "8 write failed")
+
+    def test_errors_without_room_change_no_status(self):
+        """Where nobody can be told on the errors, the status still says what happened."""
+        with open("/dev/full", "wb") as full:
+            self.assertEqual(self.program("frobnicate", stderr=full).status, 2)
+            self.assertEqual(self.program("inspect", "missing", stderr=full).status, 1)
+
+    def test_streams_that_are_closed_are_no_crash(self):
+        """The program ends with a status of its own, and by no signal, where its streams are closed."""
+        for closed in (0, 1, 2):
+            with self.subTest(closed=closed):
+                ended = self.program("run", given=b"delete 9\r\n", preexec_fn=lambda number=closed: os.close(number))
+                self.assertIn(ended.status, (0, 1))
