@@ -1,0 +1,74 @@
+"""Tests of the layers inside the program, which are written in Rattle and stand in `rattle`: `rt try` builds and runs them
+without a proof."""
+
+import os
+import re
+import shutil
+import subprocess
+import unittest
+from pathlib import Path
+
+from harness import Case
+
+HERE = Path(__file__).resolve().parent
+ROOT = HERE.parent
+
+PASSED = re.compile(r"^test result: ok\. (\d+) passed; 0 failed; 0 ignored; 0 filtered out$", re.MULTILINE)
+IS_TEST = re.compile(r"^#\[test\]$", re.MULTILINE)
+
+# So many seconds a crate may run, once it is built.
+LONGEST_RUN = 900
+
+
+@unittest.skipUnless(shutil.which("rt"), "the Rattle kit's rt isn't on the path")
+class Layers(Case):
+    # a build takes minutes where others are built beside it
+    seconds = 300
+    longest = 2400
+
+    def try_crate(self, name: str, *words: object) -> str:
+        """What a crate of `rattle` prints, built and run in a workspace of its own. It has to end with status 0."""
+        room = self.folder / "room"
+        room.mkdir()
+        subprocess.run([ROOT / "tools" / "room", room, name], check=True)
+        line = ["rt", "try", *map(str, words)]
+        done = subprocess.run(line, cwd=room / "crates" / name, env={**os.environ, "TMPDIR": str(self.folder)},
+                              stdin=subprocess.DEVNULL, stdout=subprocess.PIPE, stderr=subprocess.PIPE, text=True)
+        self.assertEqual(done.returncode, 0, (done.stdout + done.stderr)[-4000:])
+        return done.stdout
+
+    def run_tests(self, name: str) -> None:
+        """Runs the tests of a crate: all must pass, and as many as stand in its files."""
+        passed = PASSED.search(self.try_crate(name, "--test", "--seconds", LONGEST_RUN))
+        count = sum(len(IS_TEST.findall(path.read_text())) for path in (HERE / "rattle" / name).rglob("*.rs"))
+        self.assertTrue(passed, "no result is told")
+        self.assertEqual(int(passed[1]), count)
+        self.note(f"{count} tests")
+
+    def run_program(self, name: str, *words: object) -> None:
+        """Runs a program: it must print what its file `stdout` has."""
+        # the interpreter, which `rt try` runs beside, ends after one step
+        told = self.try_crate(name, "--steps", 1, "--seconds", LONGEST_RUN, *words)
+        self.assertEqual(told, (HERE / "rattle" / name / "stdout").read_text())
+
+    def test_clusters_of_threads(self):
+        """Clusters of threads over pipes answer as one queue, whatever happens to nodes, workers and clients."""
+        self.run_tests("test_cluster")
+
+    def test_cases(self):
+        """Each case of the files of `test_cases/data` comes out as it says."""
+        crate = HERE / "rattle" / "test_cases"
+        data = [f"--data={path.name}=data/{path.name}" for path in sorted((crate / "data").iterdir())]
+        self.run_program("test_cases", *(word for each in data for word in each.split("=", 1)), "--", *(crate / "args").read_text().split())
+
+    def test_drawn_inputs(self):
+        """Whatever bytes a client sends, whole and in pieces, it is told the same, and whole replies that may come."""
+        self.run_program("test_fuzz")
+
+    def test_calls_that_can_be_refused_memory(self):
+        """The courses of calls that may be refused memory come out right where none is refused."""
+        self.run_program("test_refusals")
+
+    def test_runs_that_can_be_refused_memory(self):
+        """So do the courses of whole runs."""
+        self.run_program("test_refused_runs")
