@@ -30,7 +30,7 @@ class Layers(Case):
         """What a crate of `rattle` prints, built and run in a workspace of its own. It has to end with status 0."""
         room = self.folder / "room"
         room.mkdir()
-        subprocess.run([ROOT / "tools" / "room", room, name], check=True)
+        subprocess.run([ROOT / "tools" / "workspace.py", room, name], check=True)
         line = ["rt", "try", *map(str, words)]
         done = subprocess.run(line, cwd=room / "crates" / name, env={**os.environ, "TMPDIR": str(self.folder)},
                               stdin=subprocess.DEVNULL, stdout=subprocess.PIPE, stderr=subprocess.PIPE, text=True)

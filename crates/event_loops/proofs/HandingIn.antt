@@ -11,11 +11,11 @@ use Rattle.conversation.specs.declared.stage.Stage.TheVariants.{Looking, Reading
 use Rattle.conversation.specs.Desks.{AsksOp, HandsIn, Submits, closing, giving_up, hands_in}
 use Rattle.conversation.specs.Keeping.{Keeping}
 use Rattle.conversation.specs.Talks.{ConversationState}
-use Rattle.event_loops.specs.Courses.{AllLead, Leading, Sight, Sights}
+use Rattle.event_loops.specs.Courses.{AllLead, Course, Sight, Sights}
 use Rattle.event_loops.proofs.Courses.{goes_nowhere}
 
 -- each way in which something is handed in goes on, and so does nothing
-pub hands_on : {D T : Type 0} (keeping : Keeping T) (submits : Submits D T) (leads : Leading) (shows : D → Sights)
+pub hands_on : {D T : Type 0} (keeping : Keeping T) (submits : Submits D T) (leads : Course) (shows : D → Sights)
     → ((w : Sight) → leads w w)
     → ((old new : D) (ticket : T) (act : Act Op) (result : Result Unit HallError) → submits old ticket act result new
     → AllLead leads (shows old) (shows new))

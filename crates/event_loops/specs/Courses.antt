@@ -15,9 +15,9 @@ abbrev pub Sights : Type 1
 Sights = Sight → Type 0
 
 -- that what is seen leads to what is seen later
-abbrev pub Leading : Type 1
-Leading = Sight → Sight → Type 0
+abbrev pub Course : Type 1
+Course = Sight → Sight → Type 0
 
 -- each of these leads to one of those
-abbrev pub AllLead : Leading → Sights → Sights → Type 0
+abbrev pub AllLead : Course → Sights → Sights → Type 0
 AllLead leads from to = (s : Sight) → from s → (t : Sight) × leads s t × to t

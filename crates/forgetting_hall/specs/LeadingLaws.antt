@@ -15,12 +15,12 @@ use Rattle.forgetting_hall.specs.Leading.{LeadsOn, TurnsOn}
 use Rattle.forgetting_hall.specs.Rests.{HallRest, ShowsWorld}
 
 -- events that follow others
-leads_further : {O Op Reply : Type 0} (rules : Rules O Op Reply) (w v u : World Op Reply) (es fs : List (Event Op))
+pub follow_on : {O Op Reply : Type 0} (rules : Rules O Op Reply) (w v u : World Op Reply) (es fs : List (Event Op))
     → Leads rules w es v → Leads rules v fs u → Leads rules w (es ++ fs) u
-leads_further {Op = Op} rules w v u es fs first at_once = subst (λ (ds : List (Event Op)). Leads rules w ds u) (sym (append-nil es)) first
-leads_further {Op = Op} rules w v u es fs first (after {es = ds} {v = t} e x more step) =
+follow_on {Op = Op} rules w v u es fs first at_once = subst (λ (ds : List (Event Op)). Leads rules w ds u) (sym (append-nil es)) first
+follow_on {Op = Op} rules w v u es fs first (after {es = ds} {v = t} e x more step) =
     subst (λ (ds : List (Event Op)). Leads rules w ds u) (append_assoc es ds (e ∷ []))
-    (after e u (leads_further rules w v t es ds first more) step)
+    (after e u (follow_on rules w v t es ds first more) step)
 
 -- the greatest second, by what is kept of the clients
 abbrev pub second_in : {Op Reply : Type 0} → Slots (Client Op Reply) → ℕ
@@ -44,7 +44,7 @@ module _ {O Op Reply : Type 0} (rules : Rules O Op Reply) where
     worlds = λ w i s.
         let f = first.worlds w i s in
         let t = then.worlds f.1 f.3 f.4 in
-        (f.0 ++ t.0, t.1, leads_further rules w f.1 t.1 f.0 t.0 f.2 t.2, t.3, t.4);
+        (f.0 ++ t.0, t.1, follow_on rules w f.1 t.1 f.0 t.0 f.2 t.2, t.3, t.4);
     members = then.members ∙ first.members;
     opened = let low = first.opened in let high = then.opened in omega (arith, low, high);
     second = let low = first.second in let high = then.second in omega (arith, low, high);

@@ -4,13 +4,13 @@ use Rattle.object.specs.Objects.{Rules}
 use Rattle.object.specs.declared.command.Command.{Command}
 use Rattle.forgetting_hall.specs.Halls.{ForgettingState, rest_of_hall}
 use Rattle.forgetting_hall.specs.Telling.{HasTold}
-use Rattle.loops.specs.Taking.{HasTaken, HasTakenFor, for_log}
+use Rattle.loops.specs.Taking.{HasTakenCount, HasTakenFor, for_log}
 
 module _ {O Op Reply : Type 0} (rules : Rules O Op Reply) (h : ForgettingState Op O Reply)
     (counted : (members : List ℕ) (told : List (Command Op)) → HasTold rules members h told → h.summary.placed ≡ length (told ++ h.gathering.commands))
   where
     -- what was gathered comes on top of what was taken
-    all_count : (t n : ℕ) → HasTaken rules h t → n ≡ h.summary.placed → n ≡ t + length h.gathering.commands
+    all_count : (t n : ℕ) → HasTakenCount rules h t → n ≡ h.summary.placed → n ≡ t + length h.gathering.commands
     all_count t n (told, long, has) all =
         all ∙ counted h.network.members told has ∙ length-append told h.gathering.commands ∙ ap (λ k. k + length h.gathering.commands) long
 

@@ -1,12 +1,10 @@
 -- What a server's hall goes through, as its loops see it.
-use Rattle.std.proofs.Common.{◌≡◌, List, [], ◌∷◌, ◌++◌, refl, sym, subst, append-nil}
-use Rattle.std.proofs.lemmas.List.{append_assoc}
+use Rattle.std.proofs.Common.{◌≡◌, [], ◌++◌, refl, sym, subst}
 use Rattle.std.specs.Prelude.{Result}
 use Rattle.object.specs.Objects.{Rules}
 use Rattle.object.specs.declared.command.Act.{Act}
-use Rattle.agreement.specs.Runs.{Leads, at_once, after}
+use Rattle.agreement.specs.Runs.{at_once}
 use Rattle.agreement.specs.Worlds.{World, opening}
-use Rattle.agreement.specs.declared.event.Event.{Event}
 use Rattle.hall.specs.Halls.{HallState, new_hall}
 use Rattle.hall.specs.declared.error.HallError.{HallError}
 use Rattle.turns.specs.Going.{HallGoesOn}
@@ -16,6 +14,7 @@ use Rattle.conversation.specs.Tickets.{LeanTicketState}
 use Rattle.event_loops.specs.Courses.{AllLead, Sight}
 use Rattle.forgetting_hall.specs.Halls.{ForgettingState}
 use Rattle.forgetting_hall.specs.Leading.{LeadsOn}
+use Rattle.forgetting_hall.specs.LeadingLaws.{follow_on}
 use Rattle.loops.specs.Desks.{HandsInLean, IsShownBy, LeadsBy, LeanDesk, LeanGoesOn}
 
 module _ {O Op Reply : Type 0} (rules : Rules O Op Reply) where
@@ -23,14 +22,9 @@ module _ {O Op Reply : Type 0} (rules : Rules O Op Reply) where
   pub leads_nowhere : (w : World Op Reply) → LeadsBy rules w w
   leads_nowhere w = ([], at_once)
 
-  events_further : (w v u : World Op Reply) (es fs : List (Event Op)) → Leads rules w es v → Leads rules v fs u → Leads rules w (es ++ fs) u
-  events_further w v u es fs first at_once = subst (λ gs. Leads rules w gs v) (sym (append-nil es)) first
-  events_further w v u es fs first (after {es = ds} {v = t} e x more step) =
-      subst (λ gs. Leads rules w gs u) (append_assoc es ds (e ∷ [])) (after e u (events_further w v t es ds first more) step)
-
   -- and events lead on from where events have led to
   pub leads_further : (a b c : World Op Reply) → LeadsBy rules a b → LeadsBy rules b c → LeadsBy rules a c
-  leads_further a b c first next = (first.0 ++ next.0, events_further a b c first.0 next.0 first.1 next.1)
+  leads_further a b c first next = (first.0 ++ next.0, follow_on rules a b c first.0 next.0 first.1 next.1)
 
 -- a hall that keeps all and goes on, as the loops see it
 pub hall_goes : (h z : HallState Op Reply) → HallGoesOn h z

@@ -1,6 +1,6 @@
 ghost use Rattle.std.specs.Prelude.{◌≡◌, true, false};
 ghost use Rattle.forgetting_hall.specs.Handing.{second_of};
-ghost use Rattle.loops.specs.Taking.{HasTaken, HasTakenFor};
+ghost use Rattle.loops.specs.Taking.{HasTakenCount, HasTakenFor};
 
 use crate::steps;
 use bean_words::{Op, Reply};
@@ -65,7 +65,7 @@ impl<O: Object> ForgettingDesk<O> {
 
     /// The same with a log, which has all that was taken of this hall: so many commands.
     pub(crate) fn logging(alloc: Global, hall: ForgettingHall<O>, taken: u64) -> ForgettingDesk<O>
-        requires { HasTaken O.rules hall taken }
+        requires { HasTakenCount O.rules hall taken }
         ensures { result ≡ record { hall = hall; node = 1; logs = true; taken = taken } }
     {
         ForgettingDesk {

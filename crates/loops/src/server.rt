@@ -2,7 +2,7 @@ ghost use Rattle.std.specs.Prelude.{◌≡◌, [], IfOk};
 ghost use Rattle.event_loops.specs.LoopCounts.{IsLoopCount};
 ghost use Rattle.loops.specs.Comparing.{AllCompared};
 ghost use Rattle.loops.specs.Desks.{LeanGoesOn};
-ghost use Rattle.loops.specs.Taking.{HasTaken};
+ghost use Rattle.loops.specs.Taking.{HasTakenCount};
 ghost use Rattle.turns.specs.Going.{HallGoesOn};
 
 use crate::forgetting_desk::ForgettingDesk;
@@ -155,7 +155,7 @@ pub fn serve_logged<O: Object<Op = Op, Reply = Reply> + Send, T: Seconds + Send 
     loops: u32,
 ) -> Result<ServedForgetting<O>, ServeFault>
     requires loops { IsLoopCount loops }
-    requires in_step { HasTaken O.rules hall logging.journal.synced }
+    requires in_step { HasTakenCount O.rules hall logging.journal.synced }
     ensures goes_on { IfOk result (λ s. LeanGoesOn O.rules hall s.hall) }
 {
     let taken = logging.journal.synced().upto();

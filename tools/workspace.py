@@ -1,5 +1,5 @@
 #!/usr/bin/env python3
-# Usage: tools/room FOLDER NAME..
+# Usage: tools/workspace.py FOLDER NAME..
 """Makes a workspace of its own in this empty folder: the crates of these names and those that they stand on, without their
 wrong bodies, so that `rt` works there on copies.
 
@@ -44,6 +44,7 @@ def copy_crate(name: str, to: Path) -> None:
 
 
 def make(folder: Path, names: list[str]) -> None:
+    """Makes the workspace of these crates."""
     used, found = libraries(), {}
     for name in names:
         found |= closure(used, name)
@@ -58,13 +59,13 @@ def make(folder: Path, names: list[str]) -> None:
 
 def main() -> None:
     if len(sys.argv) < 3:
-        sys.exit("usage: tools/room FOLDER NAME..")
+        sys.exit("usage: tools/workspace.py FOLDER NAME..")
     folder, names = Path(sys.argv[1]), sys.argv[2:]
     unknown = sorted({*names} - {*libraries()})
     if unknown:
-        sys.exit(f"tools/room: there is no crate {' '.join(unknown)}")
+        sys.exit(f"tools/workspace.py: there is no crate {' '.join(unknown)}")
     if not folder.is_dir() or any(folder.iterdir()):
-        sys.exit(f"tools/room: {folder} is no empty folder")
+        sys.exit(f"tools/workspace.py: {folder} is no empty folder")
     make(folder, names)
 
 
