@@ -31,9 +31,10 @@ class Layers(Case):
         room = self.folder / "room"
         room.mkdir()
         subprocess.run([ROOT / "tools" / "workspace.py", room, name], check=True)
-        line = ["rt", "try", *map(str, words)]
-        done = subprocess.run(line, cwd=room / "crates" / name, env={**os.environ, "TMPDIR": str(self.folder)},
-                              stdin=subprocess.DEVNULL, stdout=subprocess.PIPE, stderr=subprocess.PIPE, text=True)
+        crate = room / "crates" / name
+        given = (crate / "stdin").read_text() if (crate / "stdin").exists() else ""
+        done = subprocess.run(["rt", "try", *map(str, words)], cwd=crate, env={**os.environ, "TMPDIR": str(self.folder)},
+                              input=given, stdout=subprocess.PIPE, stderr=subprocess.PIPE, text=True)
         self.assertEqual(done.returncode, 0, (done.stdout + done.stderr)[-4000:])
         return done.stdout
 
@@ -64,6 +65,10 @@ class Layers(Case):
     def test_drawn_inputs(self):
         """Whatever bytes a client sends, whole and in pieces, it is told the same, and whole replies that may come."""
         self.run_program("test_fuzz")
+
+    def test_many_of_each(self):
+        """Calls among many jobs, sessions, slots, letters and commands come out as among few."""
+        self.run_program("bench_growth")
 
     def test_calls_that_can_be_refused_memory(self):
         """The courses of calls that may be refused memory come out right where none is refused."""

@@ -35,11 +35,14 @@ def rename(folder: Path) -> None:
         path.rename(path.with_suffix(".rt"))
 
 
-def copy_crate(name: str, to: Path) -> None:
+def place_of(name: str) -> Path:
+    """The folder of this crate."""
     place = ROOT / "crates" / name
-    if not place.is_dir():
-        place = UNPROVED / name
-    shutil.copytree(place, to, ignore=shutil.ignore_patterns("out", "must-fail"))
+    return place if place.is_dir() else UNPROVED / name
+
+
+def copy_crate(name: str, to: Path) -> None:
+    shutil.copytree(place_of(name), to, ignore=shutil.ignore_patterns("out", "must-fail"))
     rename(to)
 
 
