@@ -15,8 +15,8 @@ import tempfile
 import time
 
 ROOT = os.path.dirname(os.path.dirname(os.path.abspath(__file__)))
-LOAD_CRATE = os.path.join(ROOT, "crates", "serve_load")
-LOAD = os.path.join(LOAD_CRATE, "out", "serve_load")
+LOAD_SOURCE = os.path.join(ROOT, "bench", "load")
+LOAD = os.path.join(LOAD_SOURCE, "out", "serve_load")
 
 # What is started as `BEANPAX serve --port P --nodes N --workers K`.
 BEANPAX = os.environ.get("BEANPAX", os.path.join(ROOT, "beanpax"))
@@ -37,9 +37,30 @@ PRINTED = re.compile(r"(\d+) commands a second, median ([\d.]+) us, 99th percent
 def build(with_beanpax):
     """Builds the load program, and beanpax where it is wanted and no other program stands for it."""
     end_on_a_signal()
-    subprocess.run(["rt", "run", "--", "0", "0", "0", "0", "0"], cwd=LOAD_CRATE, stdout=subprocess.DEVNULL, check=True)
+    if is_load_stale():
+        build_load()
     if with_beanpax:
         build_beanpax()
+
+
+def is_load_stale():
+    """Whether the load program isn't built of its source as it is."""
+    if not os.path.exists(LOAD):
+        return True
+    sources = [file.stat().st_mtime_ns for file in os.scandir(LOAD_SOURCE) if file.name.endswith(".rs")]
+    return max(sources) >= os.stat(LOAD).st_mtime_ns
+
+
+def build_load():
+    """Builds the load program by rustc. Who measures at the same time finds the one before it, or this one."""
+    if shutil.which("rustc") is None:
+        sys.exit("rustc isn't installed, which builds bench/load")
+    os.makedirs(os.path.dirname(LOAD), exist_ok=True)
+    with tempfile.TemporaryDirectory(dir=os.path.dirname(LOAD)) as folder:
+        built = os.path.join(folder, "serve_load")
+        words = ["rustc", "-O", "--edition", "2021", "--crate-name", "serve_load", "-o", built]
+        subprocess.run([*words, os.path.join(LOAD_SOURCE, "main.rs")], check=True)
+        os.replace(built, LOAD)
 
 
 def build_beanpax():

@@ -1,12 +1,24 @@
-"""Logs as files: what stands in them, and how one of version 1 is written."""
+"""Logs as files: what stands in them, and how one is written."""
 
 import hashlib
+from collections.abc import Iterable, Iterator
 from pathlib import Path
 
 
 def sum_of(words: bytes) -> bytes:
     """The sum of words, as a log has it."""
     return hashlib.sha1(words).hexdigest()[:8].encode()
+
+
+def log_lines(commands: Iterable[str], weights: str = "1 1 1") -> Iterator[bytes]:
+    """The lines of a log of these commands, in which each tells the sum of the line before it."""
+    head = b"beanpax-log 2 %s\n" % weights.encode()
+    yield head
+    before = sum_of(head)
+    for words in commands:
+        line = b"%s %s" % (words.encode(), before)
+        before = sum_of(line)
+        yield b"%s %s\n" % (line, before)
 
 
 def log_of_version_1(*commands: str, weights: str = "1 1 1") -> bytes:
