@@ -87,6 +87,10 @@ class Client:
 
     # ---- the connection
 
+    def take_little(self) -> None:
+        """Has the system keep as little as may be of what is told and not yet read."""
+        self.socket.setsockopt(socket.SOL_SOCKET, socket.SO_RCVBUF, 1)
+
     def expect_end(self) -> None:
         """The server tells nothing more, and closes the connection."""
         try:
