@@ -120,9 +120,9 @@ class Case(unittest.TestCase):
         server.kill()
         self.fail(f"a server listens: {words}")
 
-    def client(self, server: "Server") -> Client:
+    def client(self, server: "Server", takes_little: bool = False) -> Client:
         """A client that is connected to the server."""
-        client = Client(server.host, server.port)
+        client = Client(server.host, server.port, takes_little)
         self.addCleanup(client.close)
         self.connected.append(client)
         return client

@@ -126,9 +126,8 @@ class AmidIdlers(Case):
             client.use("gone")
             client.watch("gone")
             client.send(b"put 0 0 60 5\r\nhe")
-        unreading = self.clients(server, 8)
+        unreading = [self.client(server, takes_little=True) for _ in range(8)]
         for client in unreading:
-            client.take_little()
             client.use("big")
             client.put(b"x" * 65_535)
             client.send(b"peek-ready\r\n" * 200)
