@@ -1,4 +1,4 @@
-"""What a server asks of the system, and in which order: what a kill can't show, and calls that fail. strace tells it."""
+"""What a server asks of the system, in which order, and what comes of calls that fail: all as strace tells it."""
 
 import unittest
 from collections.abc import Callable
@@ -21,6 +21,8 @@ class Traced(Case):
         super().setUp()
         if not can_trace():
             raise unittest.SkipTest("strace isn't here, or may not look at processes")
+        # As strace tells paths.
+        self.folder = self.folder.resolve()
         self.trace = self.folder / "trace"
         self.log = self.folder / "jobs.log"
 
@@ -50,15 +52,15 @@ class Order(Traced):
         return server
 
     def test_an_answer_leaves_after_its_sync(self):
-        """Before a client is told of a job, its line in the log is written, and a sync that began after that is over."""
+        """Before a client is told of a job, its line is written, and a sync of the log that began after that is over."""
         self.whole_trace(self.put_all())
         told = Log(self.log).told(self.trace)
         self.assertEqual(sorted(one.job for one in told), list(range(1, JOBS + 5)))
         self.assertEqual([one for one in told if one.synced < one.job], [])
 
     def test_an_answer_leaves_after_its_write_where_the_sync_is_put_off(self):
-        """With --sync MS a client is told of a job once its line is written, and the sync comes a while later, though nobody
-        asks for anything more."""
+        """With --sync MS a client is told of a job once its line is written, and the sync comes a while later, though
+        nobody asks for anything more."""
         server = self.put_all("--sync", 50)
         wait_until(self.is_all_synced, "all that was written is synced")
         self.whole_trace(server)
@@ -72,11 +74,10 @@ class Order(Traced):
         return log.synced == JOBS + 4
 
     def test_a_new_log_is_kept_before_anybody_is_let_in(self):
-        """Before a server tells that it listens, the name of a new log is synced in its folder, and so is the log's head."""
-        found = self.whole_trace(self.start("--log", "jobs.log"))
-        begun, ended = self.before_it_listens(found)
-        opened = next(at for at, call in enumerate(ended) if call.name == "openat" and call.result.endswith(f"<{self.log}>"))
-        self.assertTrue(any(call.name in SYNCS and call.is_of(self.folder) for call in ended[opened:]), "the folder isn't synced")
+        """Before a server tells that it listens, a new log's name is synced in its folder, and so is the log's head."""
+        begun, ended = self.before_it_listens(self.whole_trace(self.start("--log", "jobs.log")))
+        opened = next(call for call in ended if call.name == "openat" and call.result.endswith(f"<{self.log}>"))
+        self.assertIn(self.folder, self.synced_behind(opened, begun, ended))
         self.assert_synced(begun, ended, lambda call: '"beanpax-log ' in call.arguments)
 
     def test_a_cut_is_kept_before_anybody_is_let_in(self):
@@ -86,7 +87,8 @@ class Order(Traced):
             file.write(b"torn")
         server = self.start("--log", "jobs.log")
         self.assertEqual(server.errors(), "beanpax: 4 bytes behind the log were cut off\n")
-        self.assert_synced(*self.before_it_listens(self.whole_trace(server)), lambda call: call.name == "ftruncate")
+        begun, ended = self.before_it_listens(self.whole_trace(server))
+        self.assert_synced(begun, ended, lambda call: call.name == "ftruncate")
 
     def before_it_listens(self, found: list[Moment]) -> tuple[list[Call], list[Call]]:
         """The calls that began, and those that were over, before the server told that it listens."""
@@ -97,8 +99,13 @@ class Order(Traced):
     def assert_synced(self, begun: list[Call], ended: list[Call], is_change: Callable[[Call], bool]) -> None:
         """Such a call of the log was done, and behind it a sync of the log began that is over."""
         change = next(call for call in ended if call.is_of(self.log) and call.is_done() and is_change(call))
-        later = [call for call in begun[begun.index(change) + 1:] if call.name in SYNCS and call.is_of(self.log)]
-        self.assertTrue(any(call in ended and call.is_done() for call in later), f"not synced: {change}")
+        self.assertIn(self.log, self.synced_behind(change, begun, ended))
+
+    def synced_behind(self, change: Call, begun: list[Call], ended: list[Call]) -> list[Path]:
+        """Which of the folder and its log are synced behind this call."""
+        later = [call for call in begun[begun.index(change) + 1:] if call in ended and call.is_done()]
+        syncs = [call for call in later if call.name in SYNCS]
+        return [path for path in (self.folder, self.log) if any(call.is_of(path) for call in syncs)]
 
     def test_replies_are_not_held_back(self):
         """Each connection that is let in is told to send what it has at once."""
@@ -106,16 +113,16 @@ class Order(Traced):
         for client in self.clients(server, 3):
             client.use("a")
         calls = [moment.call for moment in self.whole_trace(server) if moment.is_end and moment.call.is_done()]
-        let_in = [call.result for call in calls if call.name == "accept4"]
-        told = [call.arguments for call in calls if call.name == "setsockopt" and "TCP_NODELAY, [1]" in call.arguments]
+        let_in = {call.result for call in calls if call.name == "accept4"}
+        settings = [call.arguments.split(", ") for call in calls if call.name == "setsockopt"]
         self.assertEqual(len(let_in), 3)
-        self.assertEqual([socket for socket in let_in if not any(words.startswith(f"{socket}, ") for words in told)], [])
+        self.assertEqual(let_in - {words[0] for words in settings if words[2:4] == ["TCP_NODELAY", "[1]"]}, set())
 
 
 class Faults(Traced):
     def check_log_fault(self, call: str, reason: str, fault: str) -> None:
-        """Such a call on the log fails from the fourth one on: nobody is told anything more, the server ends with the fault,
-        and what was told is there."""
+        """Such a call on the log fails from the fourth one on: nobody is told anything more, the server ends with the
+        fault, and what was told is there."""
         server = self.start("--log", "jobs.log", "--workers", 1, fault=f"{call}:error=EIO:when=4+", of=self.log)
         client, jobs = self.client(server), []
         with self.assertRaises(Gone):

@@ -14,7 +14,7 @@ CLIENTS = 20
 
 
 class Wakes(Case):
-    """Each second that passes stands in the log before what is told after it. So a log says whether one came between."""
+    """A second that has passed stands in the log before what is told after it: so the log says whether one came between."""
 
     seconds = 20
 

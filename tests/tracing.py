@@ -30,8 +30,8 @@ def can_trace() -> bool:
 
 
 def tracer(trace: Path, fault: str = "", of: Path | None = None) -> list[str]:
-    """The words that have a program traced into this file, and such calls fail: those of one file alone, where it is named.
-    The program's own process stays the one that is started."""
+    """The words that have a program traced into this file, and such calls fail: those of one file alone, where it is
+    named. The program's own process stays the one that is started."""
     injected = ["-e", f"inject={fault}"] if fault else []
     named = ["-P", str(of)] if of else []
     return ["strace", "-D", "-f", "-y", "-s", "100000", "-e", f"trace={CALLS}", *injected, *named, "-o", str(trace)]
@@ -39,7 +39,8 @@ def tracer(trace: Path, fault: str = "", of: Path | None = None) -> list[str]:
 
 def is_whole(trace: Path, process: int) -> bool:
     """Whether the trace tells the end of this process."""
-    return re.search(rf"^{process} +\+\+\+ ", trace.read_text(encoding="ascii", errors="replace"), re.MULTILINE) is not None
+    text = trace.read_text(encoding="ascii", errors="replace")
+    return re.search(rf"^{process} +\+\+\+ ", text, re.MULTILINE) is not None
 
 
 @dataclass(eq=False)
