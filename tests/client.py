@@ -27,8 +27,14 @@ class Job(NamedTuple):
 class Client:
     """One connection."""
 
-    def __init__(self, host: str, port: int):
-        self.socket = socket.create_connection((host, port), timeout=PATIENCE)
+    def __init__(self, host: str, port: int, takes_little: bool = False):
+        """Connects. Where it takes little, the system keeps next to nothing of what is told to it and not read."""
+        self.socket = socket.socket(socket.AF_INET6 if ":" in host else socket.AF_INET)
+        self.socket.settimeout(PATIENCE)
+        if takes_little:
+            self.socket.setsockopt(socket.SOL_SOCKET, socket.SO_RCVBUF, 1)
+            self.socket.setsockopt(socket.IPPROTO_TCP, socket.TCP_MAXSEG, 536)
+        self.socket.connect((host, port))
         self.socket.setsockopt(socket.IPPROTO_TCP, socket.TCP_NODELAY, 1)
         self.came = b""
 

@@ -15,7 +15,7 @@ import subprocess
 import tempfile
 import time
 import unittest
-from collections.abc import Callable, Iterable
+from collections.abc import Callable, Iterable, Sequence
 from dataclasses import dataclass
 from pathlib import Path
 
@@ -71,6 +71,7 @@ class Case(unittest.TestCase):
     def setUp(self) -> None:
         self.notes: list[str] = []
         self.servers: list[Server] = []
+        self.connected: list[Client] = []
         self.folder = Path(tempfile.mkdtemp(prefix="beanpax-"))
         self.addCleanup(shutil.rmtree, self.folder, ignore_errors=True)
         self.draw = random.Random(self.id())
@@ -119,14 +120,22 @@ class Case(unittest.TestCase):
         server.kill()
         self.fail(f"a server listens: {words}")
 
-    def client(self, server: "Server") -> Client:
+    def client(self, server: "Server", takes_little: bool = False) -> Client:
         """A client that is connected to the server."""
-        client = Client(server.host, server.port)
+        client = Client(server.host, server.port, takes_little)
         self.addCleanup(client.close)
+        self.connected.append(client)
         return client
 
     def clients(self, server: "Server", count: int) -> list[Client]:
         return [self.client(server) for _ in range(count)]
+
+    def assert_good_end(self, server: "Server") -> None:
+        """All clients leave. The server had so many sessions, ends by itself with status 0, and has told nothing else."""
+        for client in self.connected:
+            client.close()
+        ended = server.ends()
+        self.assertEqual((ended.status, ended.output, ended.errors), (0, b"", ""))
 
     def assert_fault(self, ended: Ended, line: str) -> None:
         """The program told this fault last, and nothing on its output."""
@@ -144,8 +153,9 @@ class Server:
     """A process that serves. One that the test doesn't end has to run until the test is over, and whatever it says on its
     errors the test has to look at."""
 
-    def __init__(self, case: Case, *words: object, most_files: int | None = None, port: int | None = None):
-        self.case, self.words, self.most_files = case, words, most_files
+    def __init__(self, case: Case, *words: object, most_files: int | None = None, port: int | None = None,
+                 tracer: Sequence[str] = ()):
+        self.case, self.words, self.most_files, self.tracer = case, words, most_files, tracer
         self.host, self.port = "", 0
         self.is_heard = False
         self.errors_file = case.folder / f"errors-{time.monotonic_ns()}"
@@ -170,7 +180,7 @@ class Server:
         if self.most_files is not None:
             most = self.most_files
             limits = lambda: resource.setrlimit(resource.RLIMIT_NOFILE, (most, most))
-        line = [BEANPAX, "serve", "--port", str(port), *map(str, self.words)]
+        line = [*self.tracer, BEANPAX, "serve", "--port", str(port), *map(str, self.words)]
         with open(self.errors_file, "wb") as errors:
             self.process = subprocess.Popen(line, stdin=subprocess.DEVNULL, stdout=subprocess.PIPE, stderr=errors,
                                             cwd=self.case.folder, preexec_fn=limits)
@@ -270,10 +280,20 @@ def free_port() -> int:
 
 
 @contextlib.contextmanager
-def taken_port() -> Iterable[int]:
-    """A port of 127.0.0.1 at which somebody else listens."""
-    with socket.create_server(("127.0.0.1", 0)) as listener:
+def taken_port(host: str = "127.0.0.1") -> Iterable[int]:
+    """A port of this address at which somebody else listens."""
+    family = socket.AF_INET6 if ":" in host else socket.AF_INET
+    with socket.create_server((host, 0), family=family) as listener:
         yield listener.getsockname()[1]
+
+
+def has_ipv6() -> bool:
+    """Whether this machine has the address ::1."""
+    try:
+        socket.create_server(("::1", 0), family=socket.AF_INET6).close()
+    except OSError:
+        return False
+    return True
 
 
 def is_refused(host: str, port: int) -> bool:

@@ -87,22 +87,24 @@ class Sharing(Case):
 
     def test_no_job_is_given_twice(self):
         """Eight clients that put, reserve and delete at once get each job once, and none is left."""
-        server = self.serve("--workers", 8)
+        server = self.serve("--sessions", 9, "--workers", 8)
         clients, done = self.clients(server, 8), []
-        threads = [threading.Thread(target=self.work, args=(client, 20, done)) for client in clients]
+        threads = [threading.Thread(target=self.work, args=(client, 100, done)) for client in clients]
         for thread in threads:
             thread.start()
         for thread in threads:
             thread.join()
-        self.assertEqual(sorted(done), list(range(1, 8 * 20 + 1)))
+        self.assertEqual(sorted(done), list(range(1, 8 * 100 + 1)))
         self.assertIsNone(self.client(server).reserve_with_timeout(0))
+        self.assert_good_end(server)
 
     def work(self, client, cycles: int, done: list[int]) -> None:
         for _ in range(cycles):
             client.put(b"job")
             job = client.reserve()
             client.delete(job.id)
-            done.append(job.id)
+            if job.body == b"job":
+                done.append(job.id)
 
 
 class Leaving(Case):
@@ -138,19 +140,20 @@ class Leaving(Case):
 
     def test_a_job_put_at_once_passes_over_who_has_gone(self):
         """A job that is put right after waiting clients have gone is not lost to one of them."""
-        server = self.serve("--stats")
+        server = self.serve("--sessions", 9, "--workers", 2, "--stats")
         there, *leaving = self.clients(server, 9)
         for client in leaving:
-            client.send(b"reserve\r\n")
+            client.send(b"use a\r\nreserve\r\n")
         wait_until(lambda: there.count_waiting() == 8, "eight wait")
         for number, client in enumerate(leaving):
             self.leave(client, number)
-        job = there.put(b"x")
-        self.assertEqual(there.reserve(), (job, b"x"))
+        there.talk(b"put 0 0 60 3\r\njob\r\n", b"INSERTED 1\r\n")
+        there.talk(b"reserve\r\n", b"RESERVED 1 3\r\njob\r\n")
+        self.assert_good_end(server)
 
     def test_who_goes_amid_a_command_ends_alone(self):
         """Of a client that goes amid a body, or is reset there, nothing is left, and others are served."""
-        server = self.serve("--workers", 1)
+        server = self.serve("--sessions", 3, "--workers", 1)
         leaving, reset, there = self.clients(server, 3)
         for client in (leaving, reset):
             client.use("gone")
@@ -159,6 +162,7 @@ class Leaving(Case):
         reset.reset()
         wait_until(lambda: there.list_tubes() == ["default"], "nothing is left of who has gone")
         self.assertIsNone(there.reserve_with_timeout(0))
+        self.assert_good_end(server)
 
     def test_nothing_is_left_of_who_has_gone(self):
         """When clients have gone, their files and tubes are free again, and no thread is left of them."""
@@ -187,21 +191,24 @@ class HalfClosed(Case):
 
     def test_several_are_answered_amid_others(self):
         """So are several at once, while another client's requests keep the server busy."""
-        server = self.serve("--workers", 1)
-        other, *clients = self.clients(server, 5)
-        other.send(REQUEST * 200)
+        server = self.serve("--sessions", 9, "--workers", 1)
+        other, *clients = self.clients(server, 9)
+        for client in (other, *clients):
+            client.talk(REQUEST, REPLY)
+        other.send(REQUEST * 1000)
         for client in clients:
-            client.send(REQUEST * 25)
+            client.send(REQUEST * 100)
             client.stop_sending()
         for client in clients:
-            client.expect(REPLY * 25)
+            client.expect(REPLY * 100)
             client.expect_end()
-        other.expect(REPLY * 200)
+        other.expect(REPLY * 1000)
+        self.assert_good_end(server)
 
     def test_who_sends_nothing_more_waits_no_longer(self):
         """A client that closes its writing half is let go from a reserve that would have to wait, and what it sent behind
-        isn't done."""
-        server = self.serve("--stats")
+        isn't done. A job that is put then goes to who is there."""
+        server = self.serve("--sessions", 3, "--workers", 1, "--stats")
         there = self.client(server)
         for is_waiting in (False, True):
             with self.subTest(is_waiting=is_waiting):
@@ -213,6 +220,9 @@ class HalfClosed(Case):
                 client.expect(b"USING a\r\n")
                 client.expect_end()
                 self.assertEqual(there.stats()["total-jobs"], "0")
+        there.talk(b"put 0 0 60 3\r\njob\r\n", b"INSERTED 1\r\n")
+        there.talk(b"reserve\r\n", b"RESERVED 1 3\r\njob\r\n")
+        self.assert_good_end(server)
 
     def test_who_never_sends_is_let_go(self):
         """A client that closes its writing half at once is told nothing, and let go."""

@@ -318,9 +318,10 @@ class Pieces(Talking):
 
     def test_requests_may_come_before_answers(self):
         """Many requests in one write are answered one by one, in their order, and another client meanwhile."""
-        server = self.serve("--workers", 1)
+        server = self.serve("--sessions", 2, "--workers", 1)
         flooding, other = self.clients(server, 2)
-        flooding.send(b"".join(b"use tube-%d\r\n" % number for number in range(300)))
-        for _ in range(10):
+        flooding.send(b"".join(b"use tube-%d\r\n" % number for number in range(1000)))
+        for _ in range(20):
             other.use("other")
-        flooding.expect(b"".join(b"USING tube-%d\r\n" % number for number in range(300)))
+        flooding.expect(b"".join(b"USING tube-%d\r\n" % number for number in range(1000)))
+        self.assert_good_end(server)

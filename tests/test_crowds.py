@@ -126,7 +126,7 @@ class AmidIdlers(Case):
             client.use("gone")
             client.watch("gone")
             client.send(b"put 0 0 60 5\r\nhe")
-        unreading = self.clients(server, 2)
+        unreading = [self.client(server, takes_little=True) for _ in range(8)]
         for client in unreading:
             client.use("big")
             client.put(b"x" * 65_535)
@@ -134,38 +134,44 @@ class AmidIdlers(Case):
             client.expect(b"FOUND ")
         return [*silent, *halfway, *unreading]
 
-    def put_in_pieces(self, client: Client, size: int) -> None:
-        """Puts a large job in pieces of so many bytes."""
+    def send_in_pieces(self, client: Client, size: int) -> None:
+        """Sends a large body in pieces of so many bytes."""
         body = b"y" * 65_535
-        client.send(b"put 0 0 60 65535\r\n")
         for at in range(0, len(body), size):
             client.send(body[at:at + size])
         client.send(b"\r\n")
         self.assertGreater(client.numbers(client.line(), r"INSERTED (\d+)")[0], 0)
 
-    def work(self, client: Client) -> None:
-        for _ in range(5):
+    def work(self, client: Client, cycles: int) -> None:
+        for _ in range(cycles):
             client.put(b"job")
-            client.delete(client.reserve().id)
+            job = client.reserve()
+            self.assertEqual(job.body, b"job")
+            client.delete(job.id)
 
     def test_who_works_is_answered_amid_a_crowd(self):
         """Amid clients that get nothing done others are answered; when all have gone, nothing is left but the jobs."""
-        server = self.serve("--workers", 2)
+        server = self.serve("--sessions", 73, "--workers", 2)
         first = self.client(server)
         first.talk(REQUEST, REPLY)
         before = server.count_files(), server.count_threads()
         idlers = self.idlers(server)
-        slow, working, late = self.clients(server, 4), self.clients(server, 8), self.clients(server, 8)
-        for client in late:
-            client.talk(REQUEST, REPLY)
+        slow, working, late = self.clients(server, 8), self.clients(server, 8), self.clients(server, 8)
+        for client in working:
+            self.work(client, 1)
         for client in slow:
             client.use("slow")
-        pieces = [partial(self.put_in_pieces, client, size) for client, size in zip(slow, (64, 64, 512, 512))]
-        at_once([*pieces, *(partial(self.work, client) for client in working)])
+            client.send(b"put 0 0 60 65535\r\n")
+        for client in late:
+            client.talk(REQUEST, REPLY)
+        pieces = [partial(self.send_in_pieces, client, size) for client, size in zip(slow, (1, 1, 7, 7, 64, 64, 512, 512))]
+        at_once([*pieces, *(partial(self.work, client, 20) for client in working)])
         for client in (*idlers, *slow, *working, *late):
             client.close()
         wait_until(lambda: first.list_tubes() == ["big", "default", "slow"], "tubes with jobs alone are left")
-        wait_until(lambda: (server.count_files(), server.count_threads()) == before, "files and threads are as before")
+        # The port is closed after the last of the sessions.
+        wait_until(lambda: (server.count_files() + 1, server.count_threads()) == before, "files and threads are as before")
+        self.assert_good_end(server)
 
     def test_who_sends_slowly_holds_up_nobody(self):
         """While a hundred clients have sent a part of a command each, another one is answered, and so are they at the end."""

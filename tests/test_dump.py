@@ -99,11 +99,9 @@ class Dumping(Case):
         """The dump of a server where one client puts a job, and another one reserves it."""
         server = self.serve("--sessions", 2, "--dump", "run.dump", *words)
         first, second = self.clients(server, 2)
-        first.put(b"hello", ttr=60)
-        second.reserve()
-        first.close()
-        second.close()
-        self.assertEqual(server.ends().status, 0)
+        first.talk(b"put 0 0 60 5\r\nhello\r\n", b"INSERTED 1\r\n")
+        second.talk(b"reserve\r\n", b"RESERVED 1 5\r\nhello\r\n")
+        self.assert_good_end(server)
         return (self.folder / "run.dump").read_bytes()
 
     def test_a_dump_has_what_happened(self):
@@ -138,10 +136,11 @@ class Dumping(Case):
         server = self.serve("--sessions", 1, "--nodes", 1, "--dump", "run.dump")
         client = self.client(server)
         body = self.draw.randbytes(65_535)
-        client.put(body)
-        client.close()
-        self.assertEqual(server.ends().status, 0)
-        self.assertIn(body.hex().encode(), (self.folder / "run.dump").read_bytes())
+        self.assertEqual(client.put(body), 1)
+        self.assert_good_end(server)
+        text = (self.folder / "run.dump").read_bytes()
+        self.assertTrue(text.startswith(b"beanpax-dump 1\nmembers 1\n"))
+        self.assertIn(body.hex().encode(), text)
         self.inspected()
 
     def test_an_older_dump_is_written_over(self):

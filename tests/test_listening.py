@@ -1,28 +1,20 @@
 """Where a server listens, and how long."""
 
 import signal
-import socket
 import unittest
 
-from harness import Case, is_refused, wait_until
-
-
-def has_ipv6() -> bool:
-    try:
-        socket.create_server(("::1", 0), family=socket.AF_INET6).close()
-    except OSError:
-        return False
-    return True
+from harness import Case, has_ipv6, is_refused, wait_until
 
 
 class Listening(Case):
     def test_it_listens_at_the_loopback_alone(self):
         """Where nothing is said, a server listens at 127.0.0.1 and at no other address of the machine."""
-        server = self.serve()
+        server = self.serve("--sessions", 2)
         self.assertEqual(server.host, "127.0.0.1")
         self.client(server).use("a")
         self.assertTrue(is_refused("127.0.0.2", server.port))
         self.client(server).use("b")
+        self.assert_good_end(server)
 
     def test_it_listens_at_the_address_that_is_named(self):
         """A server listens at the address that --host names, and not at 127.0.0.1 then."""
@@ -53,11 +45,8 @@ class Listening(Case):
     def test_nothing_but_the_port_is_told(self):
         """On its output a server tells where it listens and nothing else, and on its errors nothing."""
         server = self.serve("--sessions", 1)
-        client = self.client(server)
-        client.put()
-        client.close()
-        ended = server.ends()
-        self.assertEqual((ended.status, ended.output, ended.errors), (0, b"", ""))
+        self.client(server).put()
+        self.assert_good_end(server)
 
     def test_it_ends_with_the_last_of_its_sessions(self):
         """After so many connections the port is closed, who is there is served on, and the server ends when they have left."""
@@ -71,8 +60,7 @@ class Listening(Case):
         wait_until(lambda: is_refused(server.host, server.port), "the port is closed")
         last.use("c")
         self.assertIsNone(server.process.poll())
-        last.close()
-        self.assertEqual(server.ends().status, 0)
+        self.assert_good_end(server)
 
     def test_numbers_at_their_ends_are_taken(self):
         """The least and the greatest nodes, workers and weights that the help tells are taken."""

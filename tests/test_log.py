@@ -3,6 +3,7 @@
 import signal
 import stat
 import subprocess
+from functools import partial
 
 from client import Client, Gone
 from harness import Case, Server, free_port, is_refused, wait_until
@@ -10,6 +11,11 @@ from log_file import Log, log_lines, log_of_version_1
 
 # After seven seconds session 1 put two jobs, and session 2 deleted the first.
 OLDER = log_of_version_1("0 7 tick", "1 1 put 5 0 60 61", "1 2 put 9 0 60 6465", "2 1 delete 1")
+
+# The same as it was worked out by hand, of a server that was killed as it wrote the next line.
+TORN = (b"beanpax-log 1 1 1 1\n0 7 tick 7789f496\n1 1 put 5 0 60 61 6651e97c\n1 2 put 9 0 60 6465 d47036fa\n"
+        b"2 1 delete 1 dfc79c41\n1 3 put 0 0 6")
+CUT_OFF = "beanpax: 13 bytes behind the log were cut off\n"
 
 
 class Logging(Case):
@@ -79,13 +85,14 @@ class Restarts(Logging):
         self.check_outliving(signal.SIGKILL, "--nodes 5 --workers 1", "--nodes 1 --workers 3")
 
     def test_jobs_outlive_the_last_session(self):
-        """Jobs are there again after a server that has ended with the last of its sessions."""
-        server = self.start("--sessions", 1)
-        client = self.client(server)
-        set_up_jobs(client)
-        client.close()
-        self.assertEqual(server.ends().status, 0)
-        check_jobs(self, self.client(self.start()))
+        """Jobs are there again after a server that has ended with the last of its sessions, and after one more."""
+        for words, act in (("", set_up_jobs), ("--nodes 1 --sync 20", partial(check_jobs, self)), ("", self.check_next)):
+            server = self.start("--sessions", 1, *words.split())
+            act(self.client(server))
+            self.assert_good_end(server)
+
+    def check_next(self, client: Client) -> None:
+        self.assertEqual(client.peek(7), (7, b"next"))
 
     def test_jobs_outlive_many_starts(self):
         """A log goes on from start to start, and no job is lost or comes back on the way."""
@@ -128,6 +135,22 @@ class Restarts(Logging):
             self.assertGreater(len(now), len(before))
             before = now
 
+    def check_torn(self, server: Server) -> None:
+        """One client finds the job that is left in the torn log. Then the server ends."""
+        client = self.client(server)
+        self.assertIsNone(client.peek(1))
+        client.talk(b"reserve-with-timeout 0\r\n", b"RESERVED 2 2\r\nde\r\n")
+        self.assertEqual(client.put(b"f"), 3)
+        client.close()
+        ended = server.ends()
+        self.assertEqual((ended.status, ended.output, ended.errors), (0, b"", CUT_OFF))
+
+    def test_a_torn_log_of_version_1_is_read(self):
+        """What was torn behind a log that an earlier server wrote is cut off and told, and its jobs are there."""
+        self.assertTrue(TORN.startswith(OLDER))
+        self.log.write(TORN)
+        self.check_torn(self.start("--sessions", 1))
+
     def test_clients_may_come_while_a_log_is_obeyed(self):
         """Who connects before a server has obeyed its log waits, and is answered when that is done."""
         self.log.write(log_of_version_1("0 1 tick", *(f"1 {number} put 0 0 60 61" for number in range(1, 201))))
@@ -143,14 +166,9 @@ class Restarts(Logging):
 
     def test_a_dump_beside_a_log_has_all_since_it_began(self):
         """A dump beside a log has what was done before this start, too, and both are legal."""
-        self.log.write(OLDER)
+        self.log.write(TORN)
         server = self.start("--sessions", 1, "--dump", "run.dump")
-        client = self.client(server)
-        self.assertIsNone(client.peek(1))
-        self.assertEqual(client.reserve(), (2, b"de"))
-        self.assertEqual(client.put(b"f"), 3)
-        client.close()
-        self.assertEqual(server.ends().status, 0)
+        self.check_torn(server)
         # two puts and a delete of before, and three commands of this client; nobody is told of an end
         self.assertRegex(self.program("inspect", "run.dump").output, rb"^legal: \d+ submitted, 6 answered, \d+ ordered\n$")
         found = self.program("inspect", "jobs.log")

@@ -12,6 +12,17 @@ ASKED = (b"put 10 0 60 5\r\nhello\r\nput 1 0 60 0\r\n\r\nreserve-with-timeout 0\
 TOLD = (b"INSERTED 1\r\nINSERTED 2\r\nRESERVED 2 0\r\n\r\nRESERVED 1 5\r\nhello\r\nDELETED\r\nNOT_FOUND\r\n"
         b"TIMED_OUT\r\nRELEASED\r\nFOUND 2 0\r\n\r\nOK 14\r\n---\n- default\n\r\nUNKNOWN_COMMAND\r\n")
 
+# Requests, and the reply to each, which is read before the next one is sent.
+TALK = (
+    (b"put 10 0 60 5\r\nhello\r\n", b"INSERTED 1\r\n"),
+    (b"reserve\r\n", b"RESERVED 1 5\r\nhello\r\n"),
+    (b"bury 1 7\r\n", b"BURIED\r\n"),
+    (b"kick 3\r\n", b"KICKED 1\r\n"),
+    (b"reserve-with-timeout 1\r\n", b"RESERVED 1 5\r\nhello\r\n"),
+    (b"delete 1\r\n", b"DELETED\r\n"),
+    (b"x\r\n", b"UNKNOWN_COMMAND\r\n"),
+)
+
 
 class Run(Case):
     def check_run(self, words: str, given: bytes, told: bytes, status: int = 0, errors: str = "") -> None:
@@ -70,10 +81,10 @@ class Run(Case):
         pipes = {"stdin": subprocess.PIPE, "stdout": subprocess.PIPE, "stderr": subprocess.PIPE}
         with subprocess.Popen([self.program_path(), "run"], **pipes) as process:
             self.addCleanup(process.kill)
-            for request, reply in ((b"use a", b"USING a\r\n"), (b"watch b", b"WATCHING 2\r\n"), (b"x", b"UNKNOWN_COMMAND\r\n")):
-                process.stdin.write(request + b"\r\n")
+            for request, reply in TALK:
+                process.stdin.write(request)
                 process.stdin.flush()
-                self.assertEqual(process.stdout.readline(), reply)
+                self.assertEqual(process.stdout.read(len(reply)), reply)
             output, errors = process.communicate(timeout=PATIENCE)
             self.assertEqual((process.returncode, output, errors), (0, b"", b""))
 

@@ -22,32 +22,33 @@ class Seconds(Case):
     def test_a_wait_is_not_shorter_than_told(self):
         """A wait of three seconds isn't over before three seconds have passed since the server was started."""
         since = time.monotonic()
-        client = self.client(self.serve("--nodes", 1))
-        self.assertIsNone(client.reserve_with_timeout(3))
+        server = self.serve("--sessions", 1, "--nodes", 1)
+        self.assertIsNone(self.client(server).reserve_with_timeout(3))
         self.assertGreaterEqual(time.monotonic() - since, 3)
+        self.assert_good_end(server)
 
     def test_a_pause_is_not_shorter_than_told(self):
         """A pause of three seconds is over by itself, and not before three seconds have passed since the server was started."""
         since = time.monotonic()
-        server = self.serve("--nodes", 1)
-        first, second = self.clients(server, 2)
-        job = first.put(b"x")
-        first.pause_tube("default", 3)
-        self.assertEqual(second.reserve(), (job, b"x"))
+        server = self.serve("--sessions", 2, "--nodes", 1)
+        first = self.client(server)
+        first.talk(b"put 0 0 9 1\r\na\r\npause-tube default 3\r\n", b"INSERTED 1\r\nPAUSED\r\n")
+        first.close()
+        self.client(server).talk(b"reserve\r\n", b"RESERVED 1 1\r\na\r\n")
         self.assertGreaterEqual(time.monotonic() - since, 3)
+        self.assert_good_end(server)
 
-    def test_five_seconds_are_five_of_the_clock(self):
-        """From the end of one second to the end of the fifth after it five seconds pass."""
-        client = self.client(self.serve("--nodes", 1))
-        took = []
-        for _ in range(TRIES):
+    def test_ten_seconds_are_ten_of_the_clock(self):
+        """From the end of one second to the end of the tenth after it ten seconds pass."""
+        server = self.serve("--sessions", 1, "--nodes", 1)
+        client, took = self.client(server), []
+        while not took or not 9.5 <= took[-1] <= 10.5:
+            self.assertLess(len(took), TRIES, f"ten seconds took {took}")
             self.assertIsNone(client.reserve_with_timeout(1))
             since = time.monotonic()
-            self.assertIsNone(client.reserve_with_timeout(5))
+            self.assertIsNone(client.reserve_with_timeout(10))
             took.append(time.monotonic() - since)
-            if 4.5 <= took[-1] <= 5.5:
-                return
-        self.fail(f"five seconds took {took}")
+        self.assert_good_end(server)
 
     def test_a_job_whose_time_is_over_is_ready_again(self):
         """A job whose time to run is over goes to another client, and who had it has it no longer."""
@@ -73,10 +74,12 @@ class Seconds(Case):
 
     def test_seconds_pass_for_who_is_left(self):
         """When other clients have left, seconds go on for the one who is there."""
-        server = self.serve("--workers", 2, "--nodes", 1)
+        server = self.serve("--sessions", 4, "--workers", 2, "--nodes", 1)
         last, *leaving = self.clients(server, 4)
+        last.use("b")
         for client in leaving:
             client.use("a")
             client.close()
         for _ in range(2):
             self.assertIsNone(last.reserve_with_timeout(1))
+        self.assert_good_end(server)

@@ -5,5 +5,3 @@
 mod always_rows;
 #[cfg(test)]
 mod fault_rows;
-#[cfg(test)]
-mod pipe_rows;

@@ -15,13 +15,8 @@ pub struct Ended {
 
 /// A port at which nobody listens.
 pub fn free_port<H: Host>(rt: &H) -> io::Result<u16> {
-    let listener = listener(rt)?;
+    let listener = TcpListener::bind(rt, SocketAddr::from((Ipv4Addr::LOCALHOST, 0)))?;
     Ok(listener.local_addr()?.port())
-}
-
-/// Listens at a port of the loopback that was free.
-pub fn listener<H: Host>(rt: &H) -> io::Result<TcpListener> {
-    TcpListener::bind(rt, SocketAddr::from((Ipv4Addr::LOCALHOST, 0)))
 }
 
 /// The words of a command line, after the program's name.
