@@ -52,9 +52,9 @@ class Layers(Case):
         told = self.try_crate(name, "--steps", 1, "--seconds", LONGEST_RUN, *words)
         self.assertEqual(told, (HERE / "rattle" / name / "stdout").read_text())
 
-    def test_clusters_of_threads(self):
-        """Clusters of threads over pipes answer as one queue, whatever happens to nodes, workers and clients."""
-        self.run_tests("test_cluster")
+    def test_layers(self):
+        """Nodes, worlds, halls, sessions, logs and clusters of threads do what was worked out by hand, case by case."""
+        self.run_tests("test_layers")
 
     def test_cases(self):
         """Each case of the files of `test_cases/data` comes out as it says."""
