@@ -14,7 +14,7 @@ CLIENTS = 20
 
 
 class Wakes(Case):
-    """A second that has passed stands in the log before what is told after it: so the log says whether one came between."""
+    """A second stands in the log before what is told behind it: so the log says whether one has passed between."""
 
     seconds = 20
 
