@@ -1,11 +1,11 @@
-//! Two hundred sessions for ten minutes at a hall that forgets, of one node, and of three that lose letters.
+//! Two hundred sessions for two minutes at a hall that forgets, of one node, and of three that lose letters.
 use crate::soak::crowd::Crowd;
 use crate::soak::jobs::Place;
 use std::alloc::Global;
 use std::test::Fail;
 
 /// So many seconds the sessions work.
-const SECONDS: u32 = 600;
+const SECONDS: u32 = 120;
 
 /// So many of the slots that were performed are kept at most, once a second is over.
 const MOST_KEPT: u64 = 128;
@@ -71,10 +71,10 @@ fn most_kept(crowd: &mut Crowd) -> Result<u64, Fail> {
 fn one_node(rt: HostRuntime) -> Result<(), Fail> {
     let soaked = soak(rt.alloc(), 1, 1)?;
     assert!(rt;
-        soaked.deleted > 3_000 && soaked.gathered > 30,
+        soaked.deleted > 600 && soaked.gathered > 30,
         "{soaked:?}"
     );
-    assert!(rt; soaked.left > 300, "{soaked:?}");
+    assert!(rt; soaked.left > 60, "{soaked:?}");
     Ok(())
 }
 
@@ -82,10 +82,10 @@ fn one_node(rt: HostRuntime) -> Result<(), Fail> {
 fn three_nodes_that_lose_letters(rt: HostRuntime) -> Result<(), Fail> {
     let soaked = soak(rt.alloc(), 3, 2)?;
     assert!(rt;
-        soaked.deleted > 3_000 && soaked.gathered > 30,
+        soaked.deleted > 600 && soaked.gathered > 30,
         "{soaked:?}"
     );
-    assert!(rt; soaked.left > 300, "{soaked:?}");
-    assert!(rt; soaked.lost > 300 && soaked.repeated > 1_000, "{soaked:?}");
+    assert!(rt; soaked.left > 60, "{soaked:?}");
+    assert!(rt; soaked.lost > 60 && soaked.repeated > 200, "{soaked:?}");
     Ok(())
 }
