@@ -14,8 +14,6 @@ mod queues;
 #[cfg(test)]
 mod soak;
 #[cfg(test)]
-mod streams;
-#[cfg(test)]
 mod threads;
 #[cfg(test)]
 mod two_halls;

@@ -1,5 +1,5 @@
 //! Sessions whose reader or writer breaks off at each of its calls.
-use crate::streams::echo::Echo;
+use crate::echo::Echo;
 use session::{End, Reading, SessionFault, Writing, serve};
 use std::alloc::{AllocError, Global};
 use std::io;
