@@ -1,8 +1,7 @@
 -- What is read of a locked file, and what is opened there.
-use Rattle.std.proofs.Common.{◌≡◌, ◌≢◌, ℕ, ◌+◌, ◌≤◌, ◌^◌, List, [], ◌++◌, length, drop}
-use Rattle.std.proofs.Common.{Option, None, Some, Result, Ok, Err, IfOk, IfErr, IfSome, refl, sym, ap, subst, ◌∙◌, arith}
+use Rattle.std.proofs.Common.{◌≡◌, ◌≢◌, ℕ, ◌≤◌, ◌^◌, List, ◌++◌, length}
+use Rattle.std.proofs.Common.{Option, None, Some, Result, Ok, Err, IfOk, IfErr, IfSome, sym, ap, subst, ◌∙◌, arith}
 use Rattle.std.proofs.Common.{append-nil, length-append}
-use Rattle.std.specs.Io.KnownBytes.{Consumes, IsAtEnd}
 use Rattle.command_log.specs.declared.faults.LogFault.TheVariants.{Unbegun}
 use Rattle.command_log.specs.Faults.{IsLogFault}
 use Rattle.log_file.specs.declared.faults.OpenFault.{OpenFault}
@@ -49,7 +48,7 @@ read_of after text (Err f) ok err = fault_of after text f err
 pub read_from_start : (known after : Option (List ℕ)) (result : Result Recovered ReadFault)
     → IfOk result (λ recovered. ReadsAll (known_from known 0) after (λ read. IsRecovered read recovered))
     → IfErr result (IsReadFault (known_from known 0) after) → (text : List ℕ) → known ≡ Some text → IsReadOf text result
-read_from_start None after result ok err text same = absurd same
+read_from_start None after result ok err text same = absurd (subst (λ (known : Option (List ℕ)). IfSome known (λ _. ⊥)) same tt)
 read_from_start (Some held) after result ok err text same =
     subst (λ (known : Option (List ℕ)). IfSome known (λ t. IsReadOf t result)) same (read_of after held result ok err)
 

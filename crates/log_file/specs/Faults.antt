@@ -1,5 +1,5 @@
 -- Why a command isn't noted, and why no log is read.
-use Rattle.std.specs.Prelude.{◌≡◌, ◌≢◌, ℕ, ◌≤◌, ◌<◌, ◌^◌, Bool, true, false, ⊤, ⊥, List, length, Option, IfSome}
+use Rattle.std.specs.Prelude.{◌≡◌, ◌≢◌, ℕ, ◌≤◌, ◌<◌, ◌^◌, Bool, true, false, ⊤, List, length, Option, IfSome}
 use Rattle.object.specs.declared.command.Command.{Command}
 use Rattle.bean_words.specs.declared.op.Op.{Op}
 use Rattle.command_log.specs.declared.faults.WriteFault.{WriteFault}

@@ -1,4 +1,4 @@
-ghost use Rattle.std.specs.Prelude.{◌≡◌, ◌≢◌, ◌↔◌, ℕ, ⊥, List, [], length, Some, Err, IsOk, IfOk, IfErr};
+ghost use Rattle.std.specs.Prelude.{◌≡◌, ◌≢◌, ◌↔◌, ℕ, List, [], length, Some, Err, IsOk, IfOk, IfErr};
 ghost use Rattle.std.specs.Fs.{IsFile, file_type};
 ghost use Rattle.command_log.specs.Reading.{IsWholeLog};
 ghost use Rattle.command_log.specs.Text.{head_line};
