@@ -151,7 +151,7 @@ class AmidIdlers(Case):
 
     def test_who_works_is_answered_amid_a_crowd(self):
         """Amid clients that get nothing done others are answered; when all have gone, nothing is left but the jobs."""
-        server = self.serve("--sessions", 73, "--workers", 2)
+        server = self.serve("--sessions", 74, "--workers", 2)
         first = self.client(server)
         first.talk(REQUEST, REPLY)
         before = server.count_files(), server.count_threads()
@@ -169,8 +169,8 @@ class AmidIdlers(Case):
         for client in (*idlers, *slow, *working, *late):
             client.close()
         wait_until(lambda: first.list_tubes() == ["big", "default", "slow"], "tubes with jobs alone are left")
-        # The port is closed after the last of the sessions.
-        wait_until(lambda: (server.count_files() + 1, server.count_threads()) == before, "files and threads are as before")
+        wait_until(lambda: (server.count_files(), server.count_threads()) == before, "files and threads are as before")
+        self.client(server).talk(REQUEST, REPLY)
         self.assert_good_end(server)
 
     def test_who_sends_slowly_holds_up_nobody(self):

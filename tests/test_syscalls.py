@@ -52,7 +52,7 @@ class Order(Traced):
         return server
 
     def test_an_answer_leaves_after_its_sync(self):
-        """Before a client is told of a job, its line is written, and a sync of the log that began after that is over."""
+        """Before a client is told of a job, its line is written, and a sync that began after that is over."""
         self.whole_trace(self.put_all())
         told = Log(self.log).told(self.trace)
         self.assertEqual(sorted(one.job for one in told), list(range(1, JOBS + 5)))

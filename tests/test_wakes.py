@@ -14,7 +14,7 @@ CLIENTS = 20
 
 
 class Wakes(Case):
-    """A second that has passed stands in the log before what is told after it: so the log says whether one came between."""
+    """A second stands in the log before what is told behind it: so the log says whether one has passed between."""
 
     seconds = 20
 
@@ -58,14 +58,16 @@ class Wakes(Case):
 
     def test_what_a_client_had_is_given_on(self):
         """When a client goes, what it had is given at once to who waits for it, whichever loops they are with."""
-        for _ in self.clients(self.server, CLIENTS):
-            self.clients(self.server, 1)
-            self.assert_soon(self.take_over, "a job came from a client that went")
+        for waiting in self.clients(self.server, CLIENTS):
+            self.client(self.server)
+            self.assert_soon(lambda client=waiting: self.take_over(client), "a job came from a client that went")
 
-    def take_over(self) -> None:
-        """A client that comes gets a job and goes, and another one gets it then."""
+    def take_over(self, waiting: Client) -> None:
+        """A client that comes gets a job, another one waits for it, and the first one goes."""
         leaving, job = self.client(self.server), self.there.put(b"x")
         leaving.reserve()
+        waiting.send(b"reserve\r\n")
+        wait_until(lambda: self.there.count_waiting() == 1, "one waits")
         leaving.close()
-        self.assertEqual(self.there.reserve(), (job, b"x"))
-        self.there.delete(job)
+        waiting.expect(b"RESERVED %d 1\r\nx\r\n" % job)
+        waiting.delete(job)

@@ -10,6 +10,8 @@ mod logs;
 #[cfg(test)]
 mod nodes;
 #[cfg(test)]
+mod queues;
+#[cfg(test)]
 mod soak;
 #[cfg(test)]
 mod streams;
