@@ -17,7 +17,7 @@ use crate::starting::{Started, start_from};
 use crate::telling::{tell_cause, tell_number};
 use ballot::Members;
 use bean_queue::Queue;
-use log_file::{OpenFault, OpenedLog, ReadFault, open_log};
+use log_file::{Locked, OpenFault, OpenedLog, ReadFault, open_log};
 use mio::net::TcpListener;
 use object::Object;
 use options::ServerOptions;
@@ -46,11 +46,11 @@ pub(crate) struct OpenPort {
 pub(crate) enum FromLog<'a> {
     Forgetting {
         file: &'a str,
-        started: Started<File>,
+        started: Started<Locked<File>>,
     },
     Keeping {
         file: &'a str,
-        restored: Restored<File>,
+        restored: Restored<Locked<File>>,
         dump: &'a str,
     },
 }
@@ -71,7 +71,7 @@ pub(crate) fn open_all<'a, R: Host, W: ByteOut, E: ByteOut>(
         × TellsCause E.ByteOut errors.old errors.new (address_text options.now.host options.now.port) }
     ensures told { TellsOfServing (options.now.log ≢ None) E.ByteOut result errors.old errors.new }
     ensures led { IfOk result (λ opened. IfSome opened.log
-        (HasLed ⟦<Queue as Object>⟧.rules ⟦<File as Write>⟧.contents options.now.members)) }
+        (HasLed ⟦<Queue as Object>⟧.rules ⟦<Locked<File> as Write>⟧.contents options.now.members)) }
 {
     let address = address_of(rt.alloc(), options.host, options.port)?;
     let listener = listen(rt, options, &address, errors)?;
@@ -95,7 +95,7 @@ fn start<'a, R: Host, E: ByteOut>(
     ensures told { (middle : E) × WritesMore E.ByteOut errors.old middle
         × TellsCauseIn E.ByteOut result middle errors.new }
     ensures led { IfOk result
-        (HasLed ⟦<Queue as Object>⟧.rules ⟦<File as Write>⟧.contents options.now.members) }
+        (HasLed ⟦<Queue as Object>⟧.rules ⟦<Locked<File> as Write>⟧.contents options.now.members) }
 {
     match open_and_go_on(rt, file, options, errors) {
         Ok(from) => Ok(from),
@@ -112,7 +112,7 @@ fn open_and_go_on<'a, R: Host, E: ByteOut>(
 ) -> Result<FromLog<'a>, StartFault>
     ensures more { WritesMore E.ByteOut errors.old errors.new }
     ensures led { IfOk result
-        (HasLed ⟦<Queue as Object>⟧.rules ⟦<File as Write>⟧.contents options.now.members) }
+        (HasLed ⟦<Queue as Object>⟧.rules ⟦<Locked<File> as Write>⟧.contents options.now.members) }
 {
     let opened = open_file(rt, file, options.members, errors)?;
     go_on(rt, file, opened, options, errors)
@@ -122,12 +122,12 @@ fn open_and_go_on<'a, R: Host, E: ByteOut>(
 fn go_on<'a, R: Host, E: ByteOut>(
     rt: &R,
     file: &'a str,
-    opened: OpenedLog<File>,
+    opened: OpenedLog<Locked<File>>,
     options: &ServerOptions<'a>,
     errors: &mut E,
 ) -> Result<FromLog<'a>, StartFault>
     ensures more { WritesMore E.ByteOut errors.old errors.new }
-    ensures led { IfOk result (HasLedFrom ⟦<Queue as Object>⟧.rules ⟦<File as Write>⟧.contents
+    ensures led { IfOk result (HasLedFrom ⟦<Queue as Object>⟧.rules ⟦<Locked<File> as Write>⟧.contents
         options.now.members opened) }
 {
     let members = options.members;
@@ -176,7 +176,7 @@ fn open_file<R: Host, E: ByteOut>(
     file: &str,
     members: Members,
     errors: &mut E,
-) -> Result<OpenedLog<File>, StartFault>
+) -> Result<OpenedLog<Locked<File>>, StartFault>
     ensures idle { IfOk result (λ opened. IsIdle opened.log) }
     ensures cut { IfOk result (λ opened. TellsCut E.ByteOut errors.old errors.new opened.cut) }
     ensures silent { OnErr result (errors.new ≡ errors.old) }

@@ -27,6 +27,7 @@ use forgetting_hall::ForgettingHall;
 use hall::Hall;
 use inspection::no_fault_in_a_dump;
 use journal::{Journal, JournalFault};
+use log_file::Locked;
 use loops::{
     Clients, Logging, ServeFault, Served, ServedForgetting, serve_again, serve_clients,
     serve_forgetting, serve_logged,
@@ -83,7 +84,7 @@ fn serve_from_log<R: Host, E: ByteOut>(
     errors: &mut E,
 ) -> Result<(), ProgramFault>
     requires workers { IsLoopCount options.now.workers }
-    requires led { HasLed ⟦<Queue as Object>⟧.rules ⟦<File as Write>⟧.contents options.now.members from }
+    requires led { HasLed ⟦<Queue as Object>⟧.rules ⟦<Locked<File> as Write>⟧.contents options.now.members from }
     ensures fault { IfErr result (λ fault. IsOfServer fault ⊎ IsOfLog fault ⊎ IsOfDump fault) }
     ensures cause { TellsCauseIn E.ByteOut result errors.old errors.new }
 {
@@ -105,11 +106,11 @@ fn serve_started<R: Host, E: ByteOut>(
     port: OpenPort,
     options: &ServerOptions<'_>,
     file: &str,
-    started: Started<File>,
+    started: Started<Locked<File>>,
     errors: &mut E,
 ) -> Result<(), ProgramFault>
     requires workers { IsLoopCount options.now.workers }
-    requires started { HasStarted ⟦<Queue as Object>⟧.rules ⟦<File as Write>⟧.contents options.now.members
+    requires started { HasStarted ⟦<Queue as Object>⟧.rules ⟦<Locked<File> as Write>⟧.contents options.now.members
         started }
     ensures fault { IfErr result (λ fault. IsOfServer fault ⊎ IsOfLog fault) }
     ensures cause { TellsCauseIn E.ByteOut result errors.old errors.new }
@@ -127,13 +128,13 @@ fn serve_started<R: Host, E: ByteOut>(
 // Serves on behind a log: the hall, what the log counts and the clock go on from where it has led.
 fn serve_behind<R: Host>(
     rt: &R,
-    started: Started<File>,
+    started: Started<Locked<File>>,
     clients: Clients,
     seconds: ClockSeconds<'_, R>,
     options: &ServerOptions<'_>,
 ) -> Result<ServedForgetting<Queue>, ServeFault>
     requires workers { IsLoopCount options.now.workers }
-    requires started { HasStarted ⟦<Queue as Object>⟧.rules ⟦<File as Write>⟧.contents options.now.members
+    requires started { HasStarted ⟦<Queue as Object>⟧.rules ⟦<Locked<File> as Write>⟧.contents options.now.members
         started }
     requires second { seconds.second ≡ second_of started.hall }
     requires profile { clients.profile ≡ options.now.profile }
@@ -149,12 +150,12 @@ fn serve_restored<R: Host, E: ByteOut>(
     port: OpenPort,
     options: &ServerOptions<'_>,
     file: &str,
-    restored: Restored<File>,
+    restored: Restored<Locked<File>>,
     dump: &str,
     errors: &mut E,
 ) -> Result<(), ProgramFault>
     requires workers { IsLoopCount options.now.workers }
-    requires restored { HasRestored ⟦<File as Write>⟧.contents options.now.members restored }
+    requires restored { HasRestored ⟦<Locked<File> as Write>⟧.contents options.now.members restored }
     ensures fault { IfErr result (λ fault. IsOfServer fault ⊎ IsOfLog fault ⊎ IsOfDump fault) }
     ensures cause { TellsCauseIn E.ByteOut result errors.old errors.new }
 {
@@ -174,13 +175,13 @@ fn serve_restored<R: Host, E: ByteOut>(
 // Serves on behind a log, as `serve_behind`, over a hall that keeps all.
 fn serve_again_behind<R: Host>(
     rt: &R,
-    restored: Restored<File>,
+    restored: Restored<Locked<File>>,
     clients: Clients,
     seconds: ClockSeconds<'_, R>,
     options: &ServerOptions<'_>,
 ) -> Result<Served<Queue>, ServeFault>
     requires workers { IsLoopCount options.now.workers }
-    requires restored { HasRestored ⟦<File as Write>⟧.contents options.now.members restored }
+    requires restored { HasRestored ⟦<Locked<File> as Write>⟧.contents options.now.members restored }
     requires second { seconds.second ≡ restored.kept.hall.second }
     requires profile { clients.profile ≡ options.now.profile }
     ensures served { IfOk result (λ s.
@@ -204,7 +205,7 @@ fn clients_of(listener: TcpListener, options: &ServerOptions<'_>) -> Clients
 }
 
 // How the log is kept.
-fn logging_of(journal: Journal<File>, options: &ServerOptions<'_>) -> Logging
+fn logging_of(journal: Journal<Locked<File>>, options: &ServerOptions<'_>) -> Logging
     ensures journal { result.journal ≡ journal }
     ensures pause { as_nanos result.pause ≡ options.now.sync * 1000000 }
 {

@@ -13,7 +13,7 @@ use Rattle.command_log.specs.declared.chain.Chain.{Chain}
 use Rattle.command_log.specs.declared.chain.Chain.TheVariants.{Unchained, After}
 use Rattle.command_log.specs.declared.version.LogVersion.{LogVersion}
 use Rattle.command_log.specs.declared.version.LogVersion.TheVariants.{One, Two}
-use Rattle.command_log.specs.Lines.{IsChain, IsSum, is_word}
+use Rattle.command_log.specs.Lines.{IsChain, IsSum, is_plain_word}
 use Rattle.command_log.specs.Text.{sum_word, chain_words, next_chain, chain_behind, chain_after, log_chain, chained_words, head_line, first_chain}
 use Rattle.command_log.proofs.Sums.{sum_word_long}
 
@@ -22,9 +22,9 @@ use Rattle.command_log.proofs.Sums.{sum_word_long}
 is_plain_byte : (b : ℕ) → IsPlain b → (not (b == 32) && not (b == 10)) ≡ true
 is_plain_byte b h = and_from (not (b == 32)) (not (b == 10)) (not_from_false (b == 32) (ne_eqb b 32 h.0)) (not_from_false (b == 10) (ne_eqb b 10 h.1))
 
-plain_is_word : (word : List ℕ) → Plain word → is_word word ≡ true
+plain_is_word : (word : List ℕ) → Plain word → is_plain_word word ≡ true
 plain_is_word [] h = refl
-plain_is_word (b ∷ word) h = and_from (not (b == 32) && not (b == 10)) (is_word word) (is_plain_byte b h.0) (plain_is_word word h.1)
+plain_is_word (b ∷ word) h = and_from (not (b == 32) && not (b == 10)) (is_plain_word word) (is_plain_byte b h.0) (plain_is_word word h.1)
 
 pub sum_is : (words : List ℕ) → IsSum (sum_word words)
 unfolding sum_word

@@ -9,7 +9,7 @@ use Rattle.chronicle_text.specs.Lines.{NoFeed, text_of_lines}
 use Rattle.command_log.specs.declared.reader.LogReader.{LogReader}
 use Rattle.command_log.specs.declared.stage.Stage.TheVariants.{Head, BadHead, Right, Wrong, Damaged}
 use Rattle.command_log.specs.declared.whole.Whole.{Whole}
-use Rattle.command_log.specs.Lines.{IsRightLine, IsWrongLogLine}
+use Rattle.command_log.specs.Lines.{IsRightLogLine, IsWrongLogLine}
 use Rattle.command_log.specs.Progress.{BeginsOtherwise, GoesWrong, HasRead, StandsAfter}
 use Rattle.command_log.specs.Reading.{EndsInHead, HasBadHead, HasRightLine, IsDamagedAt, IsLineStart, IsLog, IsWholeLog}
 use Rattle.command_log.specs.Text.{head_line, log_text}
@@ -28,7 +28,7 @@ none_from : (line more before : List ℕ) (h : HasRightLine (line ++ more)) → 
 none_from line more before h wrong none same (inl empty) =
     let cut = one_front_line h.line line h.rest more h.is_line wrong.is_line
     (sym (h.cut ∙ ap (λ t. t ++ (h.line ++ h.rest)) (sym same ∙ empty))) in
-    wrong.not_right (subst IsRightLine cut.0 h.right)
+    wrong.not_right (subst IsRightLogLine cut.0 h.right)
 none_from line more before h wrong none same (inr (front, end)) =
     let t = behind_line line more front (h.line ++ h.rest) wrong.is_line (h.cut ∙ ap (λ t. t ++ (h.line ++ h.rest)) (sym same ∙ end)) in
     none record {

@@ -13,7 +13,7 @@ use Rattle.command_log.specs.declared.line.TheConstants.{MAX_LINE}
 use Rattle.command_log.specs.declared.stage.Stage.TheVariants.{Head, BadHead, Right, Wrong, Damaged}
 use Rattle.command_log.specs.declared.version.LogVersion.{LogVersion}
 use Rattle.command_log.specs.declared.whole.Whole.{Whole}
-use Rattle.command_log.specs.Lines.{Heads, HeadsIn, HoldsCommand, IsChain, IsLogged, IsLogLine, IsMisplaced, IsRead, IsRightLine, IsWrongLogLine}
+use Rattle.command_log.specs.Lines.{Heads, HeadsIn, HoldsCommand, IsChain, IsLogged, IsLogLine, IsMisplacedLogLine, IsRead, IsRightLogLine, IsWrongLogLine}
 use Rattle.command_log.specs.Progress.{BeginsOtherwise, StepsOn, beginning_kept}
 use Rattle.command_log.specs.Reading.{HasRightLine, IsDamagedAt, IsLineStart, IsLog}
 use Rattle.command_log.specs.Text.{head_chain, head_line, line_of_command, chain_behind, chained_words, log_text}
@@ -53,20 +53,20 @@ heads_in version line none weights members same =
 
 -- the line of a command is right in any version
 pub command_right : (version : LogVersion) (chain : Chain) (c : Command Op) → IsChain version chain → IsLogged c
-    → IsRightLine (line_of_command chain c)
+    → IsRightLogLine (line_of_command chain c)
 command_right version chain c is logged =
     record { words = chained_words chain c; is = refl; short = line_short version chain c is logged }
 
 -- what is shown of a line is right where the line is
-right_line : (line shown : List ℕ) → shown ≡ beginning_kept line → IsRightLine shown → IsRightLine line
+right_line : (line shown : List ℕ) → shown ≡ beginning_kept line → IsRightLogLine shown → IsRightLogLine line
 right_line line shown same h =
-    let here : IsRightLine (beginning_kept line) = subst IsRightLine same h in
-    subst IsRightLine (whole_shown MAX_LINE line here.short) here
+    let here : IsRightLogLine (beginning_kept line) = subst IsRightLogLine same h in
+    subst IsRightLogLine (whole_shown MAX_LINE line here.short) here
 
-wrong_line : (line shown : List ℕ) → IsLogLine line → shown ≡ beginning_kept line → (IsRightLine shown → ⊥) → IsWrongLogLine line
+wrong_line : (line shown : List ℕ) → IsLogLine line → shown ≡ beginning_kept line → (IsRightLogLine shown → ⊥) → IsWrongLogLine line
 wrong_line line shown is same none = record {
   is_line = is;
-  not_right = λ h. none (subst IsRightLine (sym (same ∙ short_shown MAX_LINE line h.short)) h);
+  not_right = λ h. none (subst IsRightLogLine (sym (same ∙ short_shown MAX_LINE line h.short)) h);
 }
 
 -- ---- the first line
@@ -134,7 +134,7 @@ right_on whole shown commands read h placed lines line taken is same fits stands
           ∙ ap (λ cs. log_text version whole.members cs) order,
     )
 
-pub goes_wrong : (whole : Whole) (shown : List ℕ) (commands : List (Command Op)) → (IsRightLine shown → ⊥)
+pub goes_wrong : (whole : Whole) (shown : List ℕ) (commands : List (Command Op)) → (IsRightLogLine shown → ⊥)
     → StepsOn (Right whole) commands shown (Wrong whole) commands
 goes_wrong whole shown commands none lines line taken is same fits stands = (
   stands.0,
@@ -151,7 +151,7 @@ goes_wrong whole shown commands none lines line taken is same fits stands = (
 lines_last : (lines : List (List ℕ)) (line : List ℕ) → text_of_lines (lines ++ (line ∷ [])) ≡ text_of_lines lines ++ line
 lines_last lines line = flat_map-append (λ l. l) lines (line ∷ []) ∙ ap (λ t. text_of_lines lines ++ t) (append-nil line)
 
-pub wrong_on : (whole : Whole) (shown : List ℕ) (commands : List (Command Op)) → (IsRightLine shown → ⊥)
+pub wrong_on : (whole : Whole) (shown : List ℕ) (commands : List (Command Op)) → (IsRightLogLine shown → ⊥)
     → StepsOn (Wrong whole) commands shown (Wrong whole) commands
 wrong_on whole shown commands none lines line taken is same fits stands =
     let log = log_text whole.version whole.members (taken ++ commands) in
@@ -177,7 +177,7 @@ are_lines (line ∷ lines) h = (h.0.is_line, are_lines lines h.1)
 
 -- a line chained to another line keeps none here
 misplaced : (version : LogVersion) (line : List ℕ) (chain : Chain) (read : LogLine) → IsLogLine line → IsChain version chain
-    → IsRead version line read → (read.chain ≡ chain → ⊥) → IsMisplaced chain line
+    → IsRead version line read → (read.chain ≡ chain → ⊥) → IsMisplacedLogLine chain line
 misplaced version line chain read is chained h other = record {
   is_line = is;
   keeps_none = λ c logged same.
@@ -185,10 +185,10 @@ misplaced version line chain read is chained h other = record {
 }
 
 -- nor does a wrong one
-wrong_here : (version : LogVersion) (line : List ℕ) (chain : Chain) → IsChain version chain → IsWrongLogLine line → IsMisplaced chain line
+wrong_here : (version : LogVersion) (line : List ℕ) (chain : Chain) → IsChain version chain → IsWrongLogLine line → IsMisplacedLogLine chain line
 wrong_here version line chain chained wrong = record {
   is_line = wrong.is_line;
-  keeps_none = λ c logged same. wrong.not_right (subst IsRightLine same (command_right version chain c chained logged));
+  keeps_none = λ c logged same. wrong.not_right (subst IsRightLogLine same (command_right version chain c chained logged));
 }
 
 -- the number of the line behind a log, in a text that isn't too long
@@ -203,7 +203,7 @@ line_number whole commands line rest log is fits =
     omega (arith, number, few, one, fits, length-append text (line ++ rest), length-append line rest)
 
 -- the log is damaged where that line stands
-damaged_here : (whole : Whole) (commands : List (Command Op)) (text line rest : List ℕ) → IsLog whole commands → IsMisplaced whole.chain line
+damaged_here : (whole : Whole) (commands : List (Command Op)) (text line rest : List ℕ) → IsLog whole commands → IsMisplacedLogLine whole.chain line
     → HasRightLine (line ++ rest) → text ≡ log_text whole.version whole.members commands ++ (line ++ rest)
     → length text < 2 ^ 64 → IsDamagedAt (min (whole.lines + 1) (2 ^ 64 - 1)) text
 damaged_here whole commands text line rest log wrong later cut fits = record {
@@ -215,7 +215,7 @@ damaged_here whole commands text line rest log wrong later cut fits = record {
   members = log.members;
   logged = log.logged;
   number = line_number whole commands line rest log wrong.is_line (subst (λ (t : List ℕ). length t < 2 ^ 64) cut fits);
-  is_wrong = subst (λ k. IsMisplaced k line) log.chain wrong;
+  is_wrong = subst (λ k. IsMisplacedLogLine k line) log.chain wrong;
   later = later;
   cut = cut;
 }
@@ -225,7 +225,7 @@ pub its_chain : (whole : Whole) (commands : List (Command Op)) → IsLog whole c
 its_chain whole commands log = subst (IsChain whole.version) (sym log.chain) (log_is whole.version whole.members commands)
 
 right_there : (before line : List ℕ) (lines : List (List ℕ)) → before ≡ text_of_lines lines → AllByRecursion IsLogLine lines
-    → IsLogLine line → IsRightLine line → HasRightLine (before ++ line)
+    → IsLogLine line → IsRightLogLine line → HasRightLine (before ++ line)
 right_there before line lines same are is right = record {
   before = before;
   line = line;
@@ -238,7 +238,7 @@ right_there before line lines same are is right = record {
 
 -- a right line that doesn't go on with the log
 damaged_first : (whole : Whole) (commands : List (Command Op)) (lines line : List ℕ) → IsLog whole commands
-    → lines ≡ log_text whole.version whole.members commands → IsMisplaced whole.chain line → IsRightLine line
+    → lines ≡ log_text whole.version whole.members commands → IsMisplacedLogLine whole.chain line → IsRightLogLine line
     → length (lines ++ line) < 2 ^ 64 → IsDamagedAt (min (whole.lines + 1) (2 ^ 64 - 1)) (lines ++ line)
 damaged_first whole commands lines line log said wrong right fits =
     let later = subst HasRightLine (sym (append-nil line)) (right_there [] line [] refl tt wrong.is_line right) in
@@ -255,9 +255,9 @@ elsewhere whole shown commands read h other lines line taken is same fits stands
     let told = keeps_line version line (Some read) (subst (λ s. HoldsCommand version s (Some read)) same h) in
     damaged_first whole all lines line stands.0 stands.1
     (misplaced version line whole.chain read is (its_chain whole all stands.0) told other)
-    (subst IsRightLine told.is (command_right version read.chain read.command told.chained told.logged)) fits
+    (subst IsRightLogLine told.is (command_right version read.chain read.command told.chained told.logged)) fits
 
-pub unread : (whole : Whole) (shown : List ℕ) (commands : List (Command Op)) → HoldsCommand whole.version shown None → IsRightLine shown
+pub unread : (whole : Whole) (shown : List ℕ) (commands : List (Command Op)) → HoldsCommand whole.version shown None → IsRightLogLine shown
     → StepsOn (Right whole) commands shown (Damaged (min (whole.lines + 1) (2 ^ 64 - 1))) commands
 unread whole shown commands none right lines line taken is same fits stands =
     let version = whole.version in
@@ -267,7 +267,7 @@ unread whole shown commands none right lines line taken is same fits stands =
     record { is_line = is; keeps_none = λ c logged chain. told whole.chain c (its_chain whole all stands.0) logged chain }
     (right_line line shown same right) fits
 
-pub damaged : (whole : Whole) (shown : List ℕ) (commands : List (Command Op)) → IsRightLine shown
+pub damaged : (whole : Whole) (shown : List ℕ) (commands : List (Command Op)) → IsRightLogLine shown
     → StepsOn (Wrong whole) commands shown (Damaged (min (whole.lines + 1) (2 ^ 64 - 1))) commands
 damaged whole shown commands right lines line taken is same fits stands =
     let version = whole.version in

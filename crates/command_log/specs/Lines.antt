@@ -35,13 +35,13 @@ pub record IsLogLine (line : List ℕ) : Type 0 where
   pub is : line ≡ said ++ codes "\n"
 
 -- neither a space nor a line feed stands in it
-abbrev pub is_word : List ℕ → Bool
-is_word bytes = list_all (λ (b : ℕ). not (b == 32) && not (b == 10)) bytes
+abbrev pub is_plain_word : List ℕ → Bool
+is_plain_word bytes = list_all (λ (b : ℕ). not (b == 32) && not (b == 10)) bytes
 
 -- a word of eight bytes
 pub record IsSum (sum : List ℕ) : Type 0 where
   pub long : length sum ≡ 8
-  pub word : is_word sum ≡ true
+  pub word : is_plain_word sum ≡ true
 
 -- lines of this version can be chained so: in version 2 by a sum
 abbrev pub IsChain : LogVersion → Chain → Type 0
@@ -93,7 +93,7 @@ abbrev pub IsHead : List ℕ → Type 0
 IsHead line = (head : LogHead) × Heads line (Some head)
 
 -- a right line, of any version: it ends in its own sum, whatever its words tell, and isn't longer than a log's lines may be
-pub record IsRightLine (line : List ℕ) : Type 0 where
+pub record IsRightLogLine (line : List ℕ) : Type 0 where
   pub words : List ℕ
   pub is : summed words ≡ line
   pub short : length line ≤ MAX_LINE
@@ -101,9 +101,9 @@ pub record IsRightLine (line : List ℕ) : Type 0 where
 -- a line that isn't right in any version
 pub record IsWrongLogLine (line : List ℕ) : Type 0 where
   pub is_line : IsLogLine line
-  pub not_right : IsRightLine line → ⊥
+  pub not_right : IsRightLogLine line → ⊥
 
 -- a line that keeps no command where it is chained so
-pub record IsMisplaced (chain : Chain) (line : List ℕ) : Type 0 where
+pub record IsMisplacedLogLine (chain : Chain) (line : List ℕ) : Type 0 where
   pub is_line : IsLogLine line
   pub keeps_none : (c : Command Op) → IsLogged c → line_of_command chain c ≡ line → ⊥

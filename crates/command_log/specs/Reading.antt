@@ -6,7 +6,7 @@ use Rattle.ballot.specs.Members.{IsMembers}
 use Rattle.bean_words.specs.declared.op.Op.{Op}
 use Rattle.command_log.specs.declared.version.LogVersion.{LogVersion}
 use Rattle.command_log.specs.declared.whole.Whole.{Whole}
-use Rattle.command_log.specs.Lines.{IsLogged, IsLogLine, IsMisplaced, IsRightLine}
+use Rattle.command_log.specs.Lines.{IsLogged, IsLogLine, IsMisplacedLogLine, IsRightLogLine}
 use Rattle.command_log.specs.Text.{head_line, log_text, log_chain}
 
 -- a line begins behind it
@@ -19,7 +19,7 @@ pub record HasRightLine (text : List ℕ) : Type 0 where
   pub line : List ℕ
   pub rest : List ℕ
   pub is_line : IsLogLine line
-  pub right : IsRightLine line
+  pub right : IsRightLogLine line
   pub starts : IsLineStart before
   pub cut : text ≡ before ++ (line ++ rest)
 
@@ -47,7 +47,7 @@ pub record IsDamagedAt (n : ℕ) (text : List ℕ) : Type 0 where
   pub members : IsMembers weights
   pub logged : AllByRecursion IsLogged commands
   pub number : n ≡ suc (suc (length commands))
-  pub is_wrong : IsMisplaced (log_chain version weights commands) wrong
+  pub is_wrong : IsMisplacedLogLine (log_chain version weights commands) wrong
   pub later : HasRightLine (wrong ++ rest)
   pub cut : text ≡ log_text version weights commands ++ (wrong ++ rest)
 

@@ -1,5 +1,5 @@
 ghost use Rattle.std.specs.Prelude.{◌≡◌, ◌++◌, length, IfOk, IsTrue, ◌↔◌, OnOk};
-ghost use Rattle.command_log.specs.Lines.{EndsInChain, is_word};
+ghost use Rattle.command_log.specs.Lines.{EndsInChain, is_plain_word};
 ghost use Rattle.command_log.specs.Text.{chain_words, head_chain, next_chain};
 
 use crate::sum::sum_of;
@@ -84,7 +84,7 @@ fn sum_at_end(words: &[u8]) -> Option<Chain>
     }
     let (_, last) = words.split_at(words.len() - CHAINED);
     let word = last.strip_prefix(b" ".as_slice())?;
-    if !is_word(word) {
+    if !is_plain_word(word) {
         return None;
     }
     let mut sum = [0; 8];
@@ -93,8 +93,8 @@ fn sum_at_end(words: &[u8]) -> Option<Chain>
 }
 
 // Whether neither a space nor a line feed stands in it.
-fn is_word(bytes: &[u8]) -> bool
-    ensures { result ≡ is_word bytes.now }
+fn is_plain_word(bytes: &[u8]) -> bool
+    ensures { result ≡ is_plain_word bytes.now }
 {
     bytes.iter().all(|b| *b != b' ' && *b != b'\n')
 }

@@ -2,7 +2,7 @@ ghost use Rattle.std.specs.Prelude.{◌≡◌, ◌↔◌, ◌++◌, IfOk, IfErr,
 ghost use Rattle.object.specs.Results.{AddsAtEnd};
 ghost use Rattle.chronicle_text.specs.Values.{IsCommandValue};
 ghost use Rattle.command_log.specs.Faults.{IsWriteFault};
-ghost use Rattle.command_log.specs.Lines.{IsLogged, IsRightLine, HasClientBody, HoldsCommand, TellsCommand};
+ghost use Rattle.command_log.specs.Lines.{IsLogged, IsRightLogLine, HasClientBody, HoldsCommand, TellsCommand};
 ghost use Rattle.command_log.specs.Spelling.{told_command};
 ghost use Rattle.command_log.specs.Text.{command_words, chain_behind, line_of_command};
 
@@ -114,7 +114,7 @@ pub(crate) fn read_line(
 
 /// Whether the line is right, whatever its version and its words are.
 pub(crate) fn is_right(alloc: Global, line: &[u8]) -> Result<bool, AllocError>
-    ensures { IfOk result (λ right. IsTrue right ↔ IsRightLine line.now) }
+    ensures { IfOk result (λ right. IsTrue right ↔ IsRightLogLine line.now) }
 {
     if line.len() > MAX_LINE {
         return Ok(false);

@@ -9,6 +9,7 @@ use crate::fault::ServeFault;
 use crate::house::House;
 use backoff::Backoff;
 use journal::{Journal, JournalFault, Kept};
+use log_file::Locked;
 use std::alloc::AllocError;
 use std::fs::File;
 use std::rt::Clock;
@@ -23,7 +24,7 @@ const FIRST_PAUSE: u64 = 10;
 /// A log for a server, and how it is kept.
 #[derive(Drop)]
 pub struct Logging {
-    pub journal: Journal<File>,
+    pub journal: Journal<Locked<File>>,
     /// How long what is answered may stay unsynced; zero where each answer waits until what took effect is kept.
     pub pause: Duration,
 }
@@ -39,7 +40,7 @@ pub struct SharedLog {
 /// The log, and why nothing more is kept, where that is so.
 #[derive(Drop)]
 struct Writing {
-    journal: Journal<File>,
+    journal: Journal<Locked<File>>,
     fault: Option<ServeFault>,
 }
 

@@ -14,7 +14,7 @@ use Rattle.command_log.specs.declared.version.LogVersion.{LogVersion}
 use Rattle.command_log.specs.declared.version.LogVersion.TheVariants.{One, Two}
 use Rattle.command_log.specs.declared.whole.Whole.{Whole}
 use Rattle.command_log.specs.Faults.{IsLogFault}
-use Rattle.command_log.specs.Lines.{IsChain, IsLogged, IsMisplaced}
+use Rattle.command_log.specs.Lines.{IsChain, IsLogged, IsMisplacedLogLine}
 use Rattle.command_log.specs.Reading.{HasRightLine, IsDamagedAt, IsWholeLog}
 use Rattle.command_log.specs.Text.{chain_after, chain_behind, chained_words, first_chain, head_line, lines_from, line_of_command, log_chain, log_text}
 use Rattle.command_log.proofs.Begun.{headed_not_begun}
@@ -80,13 +80,13 @@ kept_first version chain (c ∷ kept) (d ∷ read) x y is h k same none =
 
 -- the line that goes on with a list goes on with the same list
 same_place : (chain : Chain) (c d : Command Op) (ds : List (Command Op)) (line : List ℕ) → c ≡ d
-    → IsMisplaced (chain_after chain (d ∷ ds)) line → IsMisplaced (chain_after (chain_behind chain c) ds) line
-same_place chain c d ds line same is = subst (λ e. IsMisplaced (chain_after (chain_behind chain e) ds) line) (sym same) is
+    → IsMisplacedLogLine (chain_after chain (d ∷ ds)) line → IsMisplacedLogLine (chain_after (chain_behind chain c) ds) line
+same_place chain c d ds line same is = subst (λ e. IsMisplacedLogLine (chain_after (chain_behind chain e) ds) line) (sym same) is
 
 -- behind those in front of a line that doesn't go on with them stands none that does
 before_wrong : (version : LogVersion) (chain : Chain) (kept read : List (Command Op)) (x wrong y : List ℕ) → IsChain version chain
     → AllByRecursion IsLogged kept → AllByRecursion IsLogged read
-    → lines_from chain kept ++ x ≡ lines_from chain read ++ (wrong ++ y) → IsMisplaced (chain_after chain read) wrong → length kept ≤ length read
+    → lines_from chain kept ++ x ≡ lines_from chain read ++ (wrong ++ y) → IsMisplacedLogLine (chain_after chain read) wrong → length kept ≤ length read
 before_wrong version chain [] read x wrong y is h k same at = omega arith
 before_wrong version chain (c ∷ kept) [] x wrong y is h k same at =
     let more = lines_from (chain_behind chain c) kept in
@@ -110,7 +110,7 @@ read_first version chain (c ∷ read) (d ∷ noted) x is h k same =
 
 -- each of the lines of a log goes on with those before it
 none_wrong : (version : LogVersion) (chain : Chain) (read noted : List (Command Op)) (wrong x : List ℕ) → IsChain version chain
-    → AllByRecursion IsLogged read → AllByRecursion IsLogged noted → IsMisplaced (chain_after chain read) wrong
+    → AllByRecursion IsLogged read → AllByRecursion IsLogged noted → IsMisplacedLogLine (chain_after chain read) wrong
     → lines_from chain read ++ (wrong ++ x) ≡ lines_from chain noted ++ [] → ⊥
 none_wrong version chain [] [] wrong x is h k at same = no_line_inside [] [] wrong x tt at.is_line (sym same)
 none_wrong version chain [] (d ∷ noted) wrong x is h k at same =
@@ -150,11 +150,11 @@ begins_with text whole read h = sym (take-append-drop whole.bytes text) ∙ ap (
 
 -- a line that doesn't go on with a log is one with the log that is this
 in_place : (a b : LogVersion) (v w : List ℕ) (commands : List (Command Op)) (line : List ℕ) → a ≡ b → v ≡ w
-    → IsMisplaced (log_chain b w commands) line → IsMisplaced (chain_after (first_chain a v) commands) line
+    → IsMisplacedLogLine (log_chain b w commands) line → IsMisplacedLogLine (chain_after (first_chain a v) commands) line
 unfolding log_chain
 in_place a b v w commands line version members at =
     let chain : first_chain b w ≡ first_chain a v = ap (λ n. first_chain n w) (sym version) ∙ ap (first_chain a) (sym members) in
-    subst (λ k. IsMisplaced (chain_after k commands) line) chain at
+    subst (λ k. IsMisplacedLogLine (chain_after k commands) line) chain at
 
 has_head : (text : List ℕ) (version : LogVersion) (members : List ℕ) (kept : List (Command Op)) (x : List ℕ)
     → text ≡ log_text version members kept ++ x → text ≡ head_line version members ++ (lines_from (first_chain version members) kept ++ x)
@@ -212,7 +212,7 @@ stray_log text version members commands h = record {
 }
 
 stray_place : (text : List ℕ) (version : LogVersion) (members : List ℕ) (commands : List (Command Op)) (h : HasStrayLine text version members commands)
-    → IsMisplaced (chain_after (first_chain version members) commands) (line_of_command h.chain h.command)
+    → IsMisplacedLogLine (chain_after (first_chain version members) commands) (line_of_command h.chain h.command)
 stray_place text version members commands h = in_place version version members members commands _ refl refl
     record {
       is_line = command_is_line h.stray_version h.chain h.command h.chained h.stray_logged.value;

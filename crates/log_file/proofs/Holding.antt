@@ -10,7 +10,7 @@ use Rattle.command_log.specs.declared.chain.Chain.{Chain}
 use Rattle.command_log.specs.declared.version.LogVersion.TheVariants.{Two}
 use Rattle.command_log.specs.Text.{chain_behind, first_chain, head_line, line_of_command, log_text, log_chain}
 use Rattle.command_log.proofs.Logs.{all_last, chain_first, chain_last, log_first, log_last}
-use Rattle.log_file.specs.Bytes.{WritesAll}
+use Rattle.log_file.specs.Bytes.{WritesBatch}
 use Rattle.log_file.specs.Logs.{BeginsLog, HoldsLog}
 
 begins : (contents : Option (List ℕ)) (members : List ℕ) → IsMembers members → contents ≡ Some []
@@ -71,7 +71,7 @@ rest_waits before after batch part rest chain members commands cut taken h =
     writes after h.held part rest chain members commands before batch h refl cut (subst (λ b. Appends b after part) h.known taken)
 
 pub all_written : {E : Type 0} (before after : Option (List ℕ)) (batch : List ℕ) (chain : Chain) (result : Result Unit E)
-    → WritesAll before after batch result
+    → WritesBatch before after batch result
     → OnOk result ((members : List ℕ) (commands : List (Command Op)) → HoldsLog before batch chain members commands
     → HoldsLog after [] chain members commands)
 all_written before after batch chain (Ok u) taken =
@@ -80,7 +80,7 @@ all_written before after batch chain (Err e) taken = tt
 
 -- whatever came of it, a beginning of the log is written
 pub torn_off : {E : Type 0} (before after : Option (List ℕ)) (batch : List ℕ) (chain : Chain) (result : Result Unit E)
-    → WritesAll before after batch result → (members : List ℕ) (commands : List (Command Op)) → HoldsLog before batch chain members commands
+    → WritesBatch before after batch result → (members : List ℕ) (commands : List (Command Op)) → HoldsLog before batch chain members commands
     → BeginsLog after members commands
 torn_off before after batch chain (Ok u) taken members commands h =
     ([], (chain, rest_waits before after batch batch [] chain members commands (sym (append-nil batch)) taken h))

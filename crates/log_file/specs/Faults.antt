@@ -13,6 +13,8 @@ use Rattle.log_file.specs.declared.faults.KeepFault.{KeepFault}
 use Rattle.log_file.specs.declared.faults.KeepFault.TheVariants as keep
 use Rattle.log_file.specs.declared.faults.NoteFault.{NoteFault}
 use Rattle.log_file.specs.declared.faults.NoteFault.TheVariants as note
+use Rattle.log_file.specs.declared.faults.OpenFault.{OpenFault}
+use Rattle.log_file.specs.declared.faults.OpenFault.TheVariants as open_fault
 use Rattle.log_file.specs.declared.faults.ReadFault.{ReadFault}
 use Rattle.log_file.specs.declared.faults.ReadFault.TheVariants as read
 use Rattle.log_file.specs.Reads.{ReadsAll, ReadsSome}
@@ -70,3 +72,21 @@ IsReadFault before after read.OutOfMemory = ⊤
 IsReadFault before after (read.ReadFailed e) = ⊤
 IsReadFault before after read.TooLong = ReadsSome before after (λ text. 2 ^ 64 ≤ length text)
 IsReadFault before after (read.NoLog fault) = ReadsAll before after (λ text. IsLogFault text fault)
+
+-- what a fault says of a file that grants its lock or doesn't
+abbrev pub IsOfLocking : Option Bool → OpenFault → Type 0
+IsOfLocking grants open_fault.OutOfMemory = ⊥
+IsOfLocking grants open_fault.Locked = IfSome grants (λ granted. granted ≡ false)
+IsOfLocking grants open_fault.NotAFile = ⊥
+IsOfLocking grants (open_fault.FileFailed e) = ⊤
+IsOfLocking grants (open_fault.Unread fault) = ⊥
+IsOfLocking grants (open_fault.Unkept fault) = ⊥
+
+-- a log in a locked file isn't opened, and where that is for what was read of it, this is so of that
+abbrev pub IsUnreadBy : (ReadFault → Type 0) → OpenFault → Type 0
+IsUnreadBy P open_fault.OutOfMemory = ⊤
+IsUnreadBy P open_fault.Locked = ⊥
+IsUnreadBy P open_fault.NotAFile = ⊥
+IsUnreadBy P (open_fault.FileFailed e) = ⊤
+IsUnreadBy P (open_fault.Unread fault) = P fault
+IsUnreadBy P (open_fault.Unkept fault) = ⊤

@@ -1,7 +1,7 @@
 ghost use Rattle.std.specs.Prelude.{◌≡◌, ◌<◌, ℕ, List, IfOk, IfErr, IfSome, IsErrOf, OnOk, OnErr, length};
 ghost use Rattle.std.specs.Io.{ReadsAtMost, WritesAtMost};
 ghost use Rattle.std.specs.Io.KnownBytes.{Keeps, ReadConsumes, WriteAppends};
-ghost use Rattle.log_file.specs.Bytes.{AppendsPart, WritesAll};
+ghost use Rattle.log_file.specs.Bytes.{AppendsPart, WritesBatch};
 ghost use Rattle.log_file.specs.Faults.{IsOfReading, IsOfSyncing};
 
 use crate::durable::Durable;
@@ -11,7 +11,7 @@ use std::io::{ErrorKind, Read, Write};
 
 /// Writes all the bytes, or fails after some first ones.
 pub(crate) fn write_all<W: Write>(writer: &mut W, bytes: &[u8]) -> io::Result<()>
-    ensures written { WritesAll (W.contents writer.old) (W.contents writer.new) bytes.now result }
+    ensures written { WritesBatch (W.contents writer.old) (W.contents writer.new) bytes.now result }
     ensures part { OnErr result (AppendsPart (W.contents writer.old) (W.contents writer.new) bytes.now) }
 {
     let mut written = 0;

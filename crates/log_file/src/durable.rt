@@ -1,6 +1,5 @@
 ghost use Rattle.std.specs.Prelude.{◌≡◌, ℕ, List, length, Option, IfOk, IfSome, OnOk};
 ghost use Rattle.std.specs.Io.KnownBytes.{Keeps};
-ghost use Rattle.log_file.specs.Bytes.{CutsTo};
 
 use std::fs::File;
 use std::io;
@@ -32,20 +31,5 @@ impl Durable for File {
 
     fn size(&self) -> io::Result<u64> {
         Ok(self.metadata()?.len())
-    }
-}
-
-/// A writer whose bytes can be cut off behind a length.
-pub(crate) trait Cuttable: Durable {
-    /// Cuts off what stands behind so many bytes, and returns once these are kept, or fails.
-    fn cut(&mut self, bytes: u64) -> io::Result<()>
-        ensures bytes { OnOk result (CutsTo (Self.contents self.old) (Self.contents self.new) bytes) }
-        ensures kept { OnOk result (Keeps (Self.contents self.new) (Self.kept self.new)) };
-}
-
-impl Cuttable for File {
-    fn cut(&mut self, bytes: u64) -> io::Result<()> {
-        self.set_len(bytes)?;
-        self.sync_all()
     }
 }

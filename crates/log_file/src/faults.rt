@@ -94,6 +94,10 @@ pub enum OpenFault {
 }
 
 impl From<AllocError> for OpenFault {
+    ghost use Rattle.log_file.specs.declared.faults.OpenFault.TheVariants.{OutOfMemory};
+
+    ghost from_gives = { λ _ fault. fault ≡ OutOfMemory };
+
     fn from(_: AllocError) -> OpenFault {
         OpenFault::OutOfMemory
     }

@@ -10,12 +10,17 @@ mod durable;
 mod faults;
 mod file;
 mod laws;
+mod locked;
 mod reader;
+mod storage;
+mod stored;
 mod writer;
 
 pub use durable::Durable;
 pub use faults::{KeepFault, NoteFault, OpenFault, ReadFault};
-pub use file::{OpenedLog, open_log};
+pub use file::{OpenedLog, open_in, open_log};
 pub use laws::{kept_is_read, other_head_is_damage, stray_is_damage};
+pub use locked::{Locked, Unlocked};
 pub use reader::{Recovered, read_log};
+pub use storage::Storage;
 pub use writer::LogWriter;

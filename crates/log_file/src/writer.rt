@@ -6,7 +6,7 @@ ghost use Rattle.bean_words.specs.declared.op.Op.{Op};
 ghost use Rattle.command_log.specs.declared.version.LogVersion.TheVariants.{Two};
 ghost use Rattle.command_log.specs.Lines.{IsLogged, HasClientBody};
 ghost use Rattle.command_log.specs.Text.{chain_behind, first_chain, head_line, line_of_command};
-ghost use Rattle.log_file.specs.Bytes.{WritesAll, grown};
+ghost use Rattle.log_file.specs.Bytes.{WritesBatch, grown};
 ghost use Rattle.log_file.specs.Faults.{IsKeepFault, IsNoteFault, IsOfSyncing, IsOfWriting};
 ghost use Rattle.log_file.specs.Logs.{BeginsLog, HoldsLog};
 
@@ -127,7 +127,7 @@ impl<W: Durable> LogWriter<W> {
         }) }
         ensures err { OnErr result (self.new
             ≡ record self.old { writer = self.new.writer; has_failed = true }) }
-        ensures written { WritesAll (W.contents self.old.writer) (W.contents self.new.writer)
+        ensures written { WritesBatch (W.contents self.old.writer) (W.contents self.new.writer)
             self.old.batch result }
         ensures fault { IfErr result (IsOfWriting (W.contents self.old.writer) (W.contents self.new.writer)
             self.old.batch) }
@@ -197,7 +197,7 @@ impl<W: Durable> LogWriter<W> {
           batch = self.new.batch;
           has_failed = true;
         }) }
-        ensures written { WritesAll (W.contents self.old.writer) (W.contents self.new.writer)
+        ensures written { WritesBatch (W.contents self.old.writer) (W.contents self.new.writer)
             self.old.batch result }
         ensures kept { OnOk result (0 < length self.old.batch
             → Keeps (W.contents self.new.writer) (W.kept self.new.writer)) }

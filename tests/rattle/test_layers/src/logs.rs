@@ -2,6 +2,7 @@
 
 mod disk;
 mod file_rows;
+mod lock_rows;
 mod read_rows;
 mod text;
 mod write_rows;

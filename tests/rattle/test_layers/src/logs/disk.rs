@@ -1,8 +1,9 @@
 //! A disk over memory.
 ghost use Rattle.std.specs.Prelude.{◌≡◌};
 
-use log_file::Durable;
+use log_file::{Durable, Storage};
 use std::alloc::Global;
+use std::fs::TryLockError;
 use std::io;
 use std::io::{ErrorKind, Write};
 
@@ -15,6 +16,8 @@ pub(crate) struct Disk {
     calls: usize,
     failing: usize,
     failure: ErrorKind,
+    // Whether another opener has its lock.
+    is_held: bool,
 }
 
 impl Disk {
@@ -27,6 +30,15 @@ impl Disk {
             calls: 0,
             failing,
             failure,
+            is_held: false,
+        }
+    }
+
+    /// This disk, whose lock another opener has.
+    pub(crate) fn held_by_another(self) -> Disk {
+        Disk {
+            is_held: true,
+            ..self
         }
     }
 
@@ -88,5 +100,33 @@ impl Durable for Disk {
 
     fn size(&self) -> io::Result<u64> {
         Ok(self.bytes.len() as u64)
+    }
+}
+
+impl Storage for Disk {
+    ghost use Rattle.std.specs.Prelude.{Some, not};
+
+    ghost grants_lock = { λ s. Some (not s.is_held) };
+
+    fn take_lock(&self) -> Result<(), TryLockError> {
+        if self.is_held {
+            return Err(TryLockError::WouldBlock);
+        }
+        Ok(())
+    }
+
+    fn read_from(&self, piece: &mut [u8], from: u64) -> io::Result<usize> {
+        let at = self.bytes.len().min(from as usize);
+        let rest = &self.bytes[at..];
+        let n = rest.len().min(piece.len());
+        piece[..n].copy_from_slice(&rest[..n]);
+        Ok(n)
+    }
+
+    fn cut(&mut self, bytes: u64) -> io::Result<()> {
+        self.call()?;
+        self.bytes.truncate(bytes as usize);
+        self.kept = self.bytes.len();
+        Ok(())
     }
 }
