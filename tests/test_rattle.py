@@ -56,12 +56,6 @@ class Layers(Case):
         """Nodes, worlds, halls, sessions, logs and clusters of threads do what was worked out by hand, case by case."""
         self.run_tests("test_layers")
 
-    def test_cases(self):
-        """Each case of the files of `test_cases/data` comes out as it says."""
-        crate = HERE / "rattle" / "test_cases"
-        data = [f"--data={path.name}=data/{path.name}" for path in sorted((crate / "data").iterdir())]
-        self.run_program("test_cases", *(word for each in data for word in each.split("=", 1)), "--", *(crate / "args").read_text().split())
-
     def test_drawn_inputs(self):
         """Whatever bytes a client sends, whole and in pieces, it is told the same, and whole replies that may come."""
         self.run_program("test_fuzz")
