@@ -1,0 +1,237 @@
+-- What clients of hosts saw is a part of what happened in the world.
+use Rattle.std.proofs.Common.{◌≡◌, ◌≤◌, ◌⊎◌, inl, inr, ⊎_elim, ℕ, Bool, true, false, cond, ◌||◌, List, [], ◌∷◌, ◌++◌, length, length-append, take, refl, sym, ap, ◌∙◌, subst, arith}
+use Rattle.std.specs.List.{list_any}
+use Rattle.std.proofs.lemmas.List.{take-append-le, take_all}
+use Rattle.object.specs.Happenings.{Happenings, nothing, with_submission, with_answers, is_submitted, submitted_key, SubmittedOnce}
+use Rattle.object.specs.KeyLaws.{same_is}
+use Rattle.object.specs.Keys.{same_key, KeysOnce}
+use Rattle.object.specs.Legal.{IsLegal, StandsAt, WasSubmitted}
+use Rattle.object.specs.ListLaws.{In-left, In-right, In-cases}
+use Rattle.object.specs.Lists.{In}
+use Rattle.object.specs.Objects.{Rules}
+use Rattle.object.specs.declared.command.Answer.{Answer}
+use Rattle.object.specs.declared.command.Command.{Command}
+use Rattle.object.specs.declared.command.Key.{Key}
+use Rattle.object.specs.declared.command.Submission.{Submission}
+use Rattle.node.specs.declared.deed.Deed.{Deed}
+use Rattle.node.specs.declared.deed.Deed.TheVariants as deeds
+use Rattle.agreement.specs.Steps.{IsItsOwn}
+use Rattle.cluster.specs.Acting.{asked}
+use Rattle.cluster.specs.Together.{IsPartOf}
+
+any_end : {X : Type 0} (f : X → Bool) (xs ys : List X) → list_any f (xs ++ ys) ≡ list_any f xs || list_any f ys
+any_end f [] ys = refl
+any_end f (x ∷ xs) ys = ap (λ b. f x || b) (any_end f xs ys) ∙ turn (f x) (list_any f xs) (list_any f ys)
+  where
+    turn : (a b c : Bool) → a || (b || c) ≡ (a || b) || c
+    turn true b c = refl
+    turn false b c = refl
+
+module _ {Op Reply : Type 0} where
+  pub nothing_part : IsPartOf {Op = Op} {Reply = Reply} nothing nothing
+  nothing_part = record {
+    keys = λ key. refl;
+    submitted = λ s i. absurd i;
+    back = λ t i. absurd i;
+    answers = λ a i. i;
+    within = λ s i. absurd i;
+    beyond = λ t i. absurd i;
+  }
+
+  module _ (h g : Happenings Op Reply) (part : IsPartOf h g) where
+    -- more answers than those before a submission
+    before_more : (xs more : List (Answer Reply)) (n : ℕ) → n ≤ length xs → (a : Answer Reply) → In a (take n (xs ++ more)) → In a (take n xs)
+    before_more xs more n low a i = subst (In a) (take-append-le n xs more low) i
+
+    before_fewer : (xs more : List (Answer Reply)) (n : ℕ) → n ≤ length xs → (a : Answer Reply) → In a (take n xs) → In a (take n (xs ++ more))
+    before_fewer xs more n low a i = subst (In a) (sym (take-append-le n xs more low)) i
+
+    longer : (xs more : List (Answer Reply)) (n : ℕ) → n ≤ length xs → n ≤ length (xs ++ more)
+    longer xs more n low = let count = length-append xs more in omega (arith, low, count)
+
+    -- the same is answered in both
+    pub answered_part : (given : List (Answer Reply)) → IsPartOf (with_answers given h) (with_answers given g)
+    answered_part given = record {
+      keys = part.keys;
+      submitted = λ s i. let t = part.submitted s i in (
+        t.0,
+        t.1,
+        t.2,
+        λ a j. before_fewer g.answers given t.0.after (part.beyond t.0 t.1) a (t.3 a (before_more h.answers given s.after (part.within s i) a j)),
+      );
+      back = part.back;
+      answers = λ a i. ⊎_elim
+          (λ (j : In a h.answers). In-left a g.answers given (part.answers a j))
+          (λ (j : In a given). In-right a g.answers given j)
+          (In-cases a h.answers given i);
+      within = λ s i. longer h.answers given s.after (part.within s i);
+      beyond = λ t i. longer g.answers given t.after (part.beyond t i);
+    }
+
+    -- or in the world alone
+    pub told_part : (given : List (Answer Reply)) → IsPartOf h (with_answers given g)
+    told_part given = record {
+      keys = part.keys;
+      submitted = λ s i. let t = part.submitted s i in (
+        t.0,
+        t.1,
+        t.2,
+        λ a j. before_fewer g.answers given t.0.after (part.beyond t.0 t.1) a (t.3 a j),
+      );
+      back = part.back;
+      answers = λ a i. In-left a g.answers given (part.answers a i);
+      within = part.within;
+      beyond = λ t i. longer g.answers given t.after (part.beyond t i);
+    }
+
+    -- or, again, at a host alone
+    pub relayed_part : (a : Answer Reply) → In a h.answers → IsPartOf (with_answers (a ∷ []) h) g
+    relayed_part a was = record {
+      keys = part.keys;
+      submitted = λ s i. let t = part.submitted s i in (
+        t.0,
+        t.1,
+        t.2,
+        λ b j. t.3 b (before_more h.answers (a ∷ []) s.after (part.within s i) b j),
+      );
+      back = part.back;
+      answers = λ b i. ⊎_elim
+          (λ (j : In b h.answers). part.answers b j)
+          (λ (j : In b (a ∷ [])). ⊎_elim (λ (e : b ≡ a). part.answers b (subst (λ z. In z h.answers) (sym e) was)) (λ none. absurd none) j)
+          (In-cases b h.answers (a ∷ []) i);
+      within = λ s i. longer h.answers (a ∷ []) s.after (part.within s i);
+      beyond = part.beyond;
+    }
+
+    -- a command is submitted
+    module _ (c : Command Op) where
+      abbrev s₀ : Submission Op
+      s₀ = record { command = c; after = length h.answers }
+
+      abbrev t₀ : Submission Op
+      t₀ = record { command = c; after = length g.answers }
+
+      all_before : (a : Answer Reply) → In a (take (length h.answers) h.answers) → In a (take (length g.answers) g.answers)
+      all_before a i = subst (In a) (sym (take_all (length g.answers) g.answers (omega arith)))
+          (part.answers a (subst (In a) (take_all (length h.answers) h.answers (omega arith)) i))
+
+      one_more : IsPartOf (record h { submitted = h.submitted ++ (s₀ ∷ []) }) (record g { submitted = g.submitted ++ (t₀ ∷ []) })
+      one_more = record {
+        keys = λ key.
+            any_end (λ s. same_key (submitted_key s) key) h.submitted (s₀ ∷ [])
+            ∙ ap (λ b. b || list_any (λ s. same_key (submitted_key s) key) (s₀ ∷ [])) (part.keys key)
+            ∙ sym (any_end (λ s. same_key (submitted_key s) key) g.submitted (t₀ ∷ []));
+        submitted = λ s i. ⊎_elim
+            (λ (j : In s h.submitted). let t = part.submitted s j in (t.0, In-left t.0 g.submitted (t₀ ∷ []) t.1, t.2, t.3))
+            (λ (j : In s (s₀ ∷ [])). ⊎_elim
+            (λ (e : s ≡ s₀). (
+              t₀,
+              In-right t₀ g.submitted (t₀ ∷ []) (inl refl),
+              ap (λ (z : Submission Op). z.command) (sym e),
+              λ a k. all_before a (subst (λ (z : Submission Op). In a (take z.after h.answers)) e k),
+            ))
+            (λ none. absurd none) j)
+            (In-cases s h.submitted (s₀ ∷ []) i);
+        back = λ t i. ⊎_elim
+            (λ (j : In t g.submitted). let s = part.back t j in (s.0, In-left s.0 h.submitted (s₀ ∷ []) s.1, s.2))
+            (λ (j : In t (t₀ ∷ [])). ⊎_elim
+            (λ (e : t ≡ t₀). (s₀, In-right s₀ h.submitted (s₀ ∷ []) (inl refl), ap (λ (z : Submission Op). z.command) (sym e)))
+            (λ none. absurd none) j)
+            (In-cases t g.submitted (t₀ ∷ []) i);
+        answers = part.answers;
+        within = λ s i. ⊎_elim
+            (λ (j : In s h.submitted). part.within s j)
+            (λ (j : In s (s₀ ∷ [])). ⊎_elim
+            (λ (e : s ≡ s₀). let same = ap (λ (z : Submission Op). z.after) e in omega (arith, same))
+            (λ none. absurd none) j)
+            (In-cases s h.submitted (s₀ ∷ []) i);
+        beyond = λ t i. ⊎_elim
+            (λ (j : In t g.submitted). part.beyond t j)
+            (λ (j : In t (t₀ ∷ [])). ⊎_elim
+            (λ (e : t ≡ t₀). let same = ap (λ (z : Submission Op). z.after) e in omega (arith, same))
+            (λ none. absurd none) j)
+            (In-cases t g.submitted (t₀ ∷ []) i);
+      }
+
+      by_test : (a b : Bool) → a ≡ b → IsPartOf (cond a h (record h { submitted = h.submitted ++ (s₀ ∷ []) }))
+          (cond b g (record g { submitted = g.submitted ++ (t₀ ∷ []) }))
+      by_test true true e = part
+      by_test false false e = one_more
+      by_test true false e = absurd (cc)
+      by_test false true e = absurd (cc)
+
+      pub submitted_part : IsPartOf (with_submission c h) (with_submission c g)
+      submitted_part = by_test (is_submitted c.key h.submitted) (is_submitted c.key g.submitted) (part.keys c.key)
+
+    pub asked_part : (d : Deed Op) → IsPartOf (asked d h) (asked d g)
+    asked_part (deeds.Request c) = submitted_part c
+    asked_part deeds.Wake = part
+    asked_part deeds.Nudge = part
+    asked_part deeds.Propose = part
+    asked_part deeds.Perform = part
+    asked_part deeds.Restart = part
+
+    -- what is legal for the world is legal for the hosts
+    pub legal_part : {O : Type 0} (rules : Rules O Op Reply) (order : List (Command Op)) → IsLegal rules g order → IsLegal rules h order
+    legal_part rules order legal = record {
+      submitted = λ c i. let t = legal.submitted c i in let s = part.back t.0 t.1 in (s.0, s.1, s.2 ∙ t.2);
+      rising = legal.rising;
+      answered = λ a i. legal.answered a (part.answers a i);
+      once = legal.once;
+      later = λ s i a before m n given stands.
+          let t = part.submitted s i in
+          legal.later t.0 t.1 a (t.3 a before) m n given (subst (λ (k : Command Op). StandsAt k.key order n) (sym t.2) stands);
+    }
+
+-- what was submitted, after one command more
+module _ {Op Reply : Type 0} (c : Command Op) (h : Happenings Op Reply) where
+  abbrev last : Submission Op
+  last = record { command = c; after = length h.answers }
+
+  pub submitted_before : (t : Submission Op) → In t (with_submission c h).submitted → In t h.submitted ⊎ (t.command ≡ c)
+  submitted_before t i = at (is_submitted c.key h.submitted) i
+    where
+      at : (b : Bool) → In t (cond b h (record h { submitted = h.submitted ++ (last ∷ []) })).submitted → In t h.submitted ⊎ (t.command ≡ c)
+      at true j = inl j
+      at false j = ⊎_elim
+          (λ (k : In t h.submitted). inl k)
+          (λ (k : In t (last ∷ [])). ⊎_elim (λ (e : t ≡ last). inr (ap (λ (z : Submission Op). z.command) e)) (λ none. absurd none) k)
+          (In-cases t h.submitted (last ∷ []) j)
+
+  pub submitted_still : (d : Command Op) → WasSubmitted d h.submitted → WasSubmitted d (with_submission c h).submitted
+  submitted_still d was = (was.0, at (is_submitted c.key h.submitted), was.2)
+    where
+      at : (b : Bool) → In was.0 (cond b h (record h { submitted = h.submitted ++ (last ∷ []) })).submitted
+      at true = was.1
+      at false = In-left was.0 h.submitted (last ∷ []) was.1
+
+  key_step : (s : Submission Op) (ss : List (Submission Op)) (b : Bool) → same_key s.command.key c.key ≡ b → b || is_submitted c.key ss ≡ true
+      → (is_submitted c.key ss ≡ true → (t : Submission Op) × In t ss × (same_key t.command.key c.key ≡ true))
+      → (t : Submission Op) × In t (s ∷ ss) × (same_key t.command.key c.key ≡ true)
+  key_step s ss true same f more = (s, inl refl, same)
+  key_step s ss false same f more = let r = more f in (r.0, inr r.1, r.2)
+
+  key_found : (ss : List (Submission Op)) → is_submitted c.key ss ≡ true → (t : Submission Op) × In t ss × (same_key t.command.key c.key ≡ true)
+  key_found [] e = absurd (cc)
+  key_found (s ∷ ss) e = key_step s ss (same_key s.command.key c.key) refl e (key_found ss)
+
+  pub submitted_now : IsItsOwn c h.submitted → WasSubmitted c (with_submission c h).submitted
+  submitted_now own = at (is_submitted c.key h.submitted) refl
+    where
+      at : (b : Bool) → is_submitted c.key h.submitted ≡ b → WasSubmitted c (cond b h (record h { submitted = h.submitted ++ (last ∷ []) })).submitted
+      at true e = let r = key_found h.submitted e in (r.0, r.1, own r.0 r.1 r.2)
+      at false e = (last, In-right last h.submitted (last ∷ []) (inl refl), refl)
+
+pub once_one : {X : Type 0} (key_of : X → Key) (xs : List X) → KeysOnce key_of xs → (x y : X) → In x xs → In y xs → key_of x ≡ key_of y → x ≡ y
+once_one key_of [] once x y i j e = absurd i
+once_one key_of (z ∷ zs) once x y (inl p) (inl q) e = p ∙ sym q
+once_one key_of (z ∷ zs) once x y (inl p) (inr j) e = absurd (once.0 y j (sym e ∙ ap key_of p))
+once_one key_of (z ∷ zs) once x y (inr i) (inl q) e = absurd (once.0 x i (e ∙ ap key_of q))
+once_one key_of (z ∷ zs) once x y (inr i) (inr j) e = once_one key_of zs once.1 x y i j e
+
+-- a command that was submitted is its key's own
+pub submitted_own : {Op : Type 0} (c : Command Op) (submitted : List (Submission Op)) → SubmittedOnce submitted → WasSubmitted c submitted → IsItsOwn c submitted
+submitted_own c submitted once was t i e =
+    ap (λ (s : Submission _). s.command) (once_one submitted_key submitted once t was.0 i was.1
+    (same_is t.command.key c.key e ∙ ap (λ (k : Command _). k.key) (sym was.2)))
+    ∙ was.2
