@@ -1,14 +1,4 @@
-pub mod Envelopes
-pub mod Slots
-pub mod Acting
-pub mod Elsewhere
-pub mod Forgets
-pub mod Opening
-pub mod Told
-pub mod Histories
-pub mod CatchingUp
-pub mod Takeover
-pub mod Returning
-pub mod Counting
-pub mod Happened
-pub mod Sharing
+-- The folders, lowest first.
+pub mod alone
+pub mod catching_up
+pub mod together

@@ -1,5 +1,5 @@
--- A host takes over a snapshot: the object and the slot that another one has come to, in place of the decisions before it.
-use Rattle.std.specs.Prelude.{◌≡◌, ◌≢◌, ℕ, ◌+◌, ◌*◌, ◌<◌, max, Some, List, slice_get, ◌-◌, ◌++◌, flat_map, true}
+-- A host takes over a snapshot, in place of the decisions before its slot.
+use Rattle.std.specs.Prelude.{◌≡◌, ◌≢◌, ℕ, ◌+◌, ◌*◌, ◌<◌, Some, List, slice_get, ◌-◌, ◌++◌, flat_map, true}
 use Rattle.std.specs.FinMap.{get}
 use Rattle.std.specs.List.{range_with_len}
 use Rattle.std.specs.Option.{option_to_list}
@@ -12,34 +12,34 @@ use Rattle.object.specs.declared.command.Answer.{Answer}
 use Rattle.object.specs.declared.command.Command.{Command}
 use Rattle.ballot.specs.declared.letter.Letter.{Letter}
 use Rattle.ballot.specs.declared.letter.LetterBody.TheVariants.{Decision}
-use Rattle.acceptor.specs.Rests.{rest_of_acceptor}
-use Rattle.leader.specs.Leaders.{new_leader}
-use Rattle.slot_log.specs.Books.{SlotBook, new_book}
+use Rattle.slot_log.specs.Books.{SlotBook}
 use Rattle.slot_log.specs.Rests.{rest_of_book}
 use Rattle.node.specs.Rests.{rest_of_node}
 use Rattle.agreement.specs.Chosen.{IsOrder}
 use Rattle.agreement.specs.Nodes.{Cluster, node}
 use Rattle.agreement.specs.Runs.{Leads, IsWorld}
-use Rattle.agreement.specs.Steps.{Step}
 use Rattle.agreement.specs.Worlds.{World}
 use Rattle.agreement.specs.declared.event.Event.{Event}
 use Rattle.agreement.specs.declared.event.Event.TheVariants.{Submit, Deliver, Wake, Nudge, Propose, Perform, Restart}
-use Rattle.cluster.specs.Hosts.{HostState, ShowsHost, Stored, IsStored, booted}
+use Rattle.cluster.specs.Hosts.{HostState, ShowsHost}
+use Rattle.cluster.specs.Storing.{Stored, IsStored}
 
--- node n is told a decision, or performs
+-- the event is that node n is told a decision, or that it performs
 abbrev pub IsCatchingUp : {Op : Type 0} → ℕ → Cluster (Command Op) → Event Op → Type 0
 IsCatchingUp n k (Submit m c) = ⊥
 IsCatchingUp {Op} n k (Deliver i) =
-    (l : Letter (Command Op)) × (s : ℕ) × (c : Command Op) × (slice_get k.letters i ≡ Some l) × (l.to ≡ n) × (l.body ≡ Decision s c)
+    (l : Letter (Command Op)) × (s : ℕ) × (c : Command Op)
+    × (slice_get k.letters i ≡ Some l) × (l.to ≡ n) × (l.body ≡ Decision s c)
 IsCatchingUp n k (Wake m) = ⊥
 IsCatchingUp n k (Nudge m) = ⊥
 IsCatchingUp n k (Propose m) = ⊥
 IsCatchingUp n k (Perform m) = m ≡ n
 IsCatchingUp n k (Restart m) = ⊥
 
--- what was proposed for the slots from slot_out on up to this one, in rising slot
+-- what was proposed for the slots from slot_out up to this one, in rising slot
 abbrev pub proposed_upto : {C : Type 0} → ℕ → SlotBook C → List C
-proposed_upto slot book = flat_map (λ s. option_to_list (get book.proposals s)) (range_with_len book.slot_out (slot - book.slot_out))
+proposed_upto slot book =
+    flat_map (λ s. option_to_list (get book.proposals s)) (range_with_len book.slot_out (slot - book.slot_out))
 
 -- the replica's book, from a higher slot on: what it has proposed for the slots before, it goes on being asked for
 abbrev pub book_from : {C : Type 0} → ℕ → SlotBook C → SlotBook C
@@ -49,7 +49,7 @@ book_from slot book = record (rest_of_book slot book) {
   proposals = kept_from slot book.proposals;
 }
 
--- the host with this object, which goes on at this slot; of its acceptor and its leader it keeps the slots from there on
+-- the host with this object, which goes on at this slot, and keeps the slots from there on
 abbrev pub caught_up : {Op O : Type 0} → ℕ → Filtered O → HostState Op O → HostState Op O
 caught_up slot object s = record {
   base = slot;
@@ -59,12 +59,14 @@ caught_up slot object s = record {
   };
 }
 
--- what it has proposed for the slots before, the object has not obeyed
+-- the object has obeyed nothing of what the replica has proposed for slots before this one
 abbrev pub HasProposedInVain : {Op O : Type 0} → ℕ → Filtered O → SlotBook (Command Op) → Type 0
-HasProposedInVain {Op} slot object book = (s : ℕ) (c : Command Op) → s < slot → get book.proposals s ≡ Some c → is_later c.key object.latest ≡ true
+HasProposedInVain {Op} slot object book =
+    (s : ℕ) (c : Command Op) → s < slot → get book.proposals s ≡ Some c → is_later c.key object.latest ≡ true
 
--- Events lead to a world that the host shows then: node n is told decisions and performs them, and nothing else happens. No
--- answer is new, and nothing else is chosen.
+-- Events lead to a world that the host shows then: node n is told decisions and performs them, twice as many events as
+-- slots, and nothing else happens. No answer is new, what other nodes have and have stored is as it was, and so is the
+-- order.
 pub record CatchesUp {O Op Reply : Type 0} (rules : Rules O Op Reply) (s : HostState Op O) (n : ℕ) (w : World Op Reply) : Type 0 where
   pub world : World Op Reply
   pub events : List (Event Op)
@@ -82,26 +84,3 @@ pub record CatchesUp {O Op Reply : Type 0} (rules : Rules O Op Reply) (s : HostS
   pub answers : IsBeginning w.happenings.answers world.happenings.answers
   pub told_once : (a : Answer Reply) → In a world.happenings.answers → In a w.happenings.answers
   pub order : (cs : List (Command Op)) → IsOrder w.cluster cs → IsOrder world.cluster cs
-
--- the host that comes back with it, and with a snapshot
-abbrev pub back_again : {Op O : Type 0} → List ℕ → ℕ → Stored Op → ℕ → Filtered O → HostState Op O
-back_again members n d slot object = record {
-  base = slot;
-  holding = record {
-    state = record {
-      acceptor = rest_of_acceptor slot d.acceptor;
-      boot = d.boot + 1;
-      leader = new_leader members n (d.boot + 1);
-      replica = record new_book { slot_in = max 1 slot; slot_out = slot };
-    };
-    object = object;
-  };
-}
-
--- it restarts, and catches up
-pub record ComesBack {O Op Reply : Type 0} (rules : Rules O Op Reply) (n : ℕ) (d : Stored Op) (slot : ℕ) (object : Filtered O) (w : World Op Reply) : Type 0 where
-  pub opened : World Op Reply
-  pub step : Step rules w (Restart n) opened
-  pub happenings : opened.happenings ≡ w.happenings
-  pub stored : IsStored (booted d) n opened.cluster
-  pub catches_up : CatchesUp rules (back_again w.cluster.members n d slot object) n opened

@@ -1,5 +1,5 @@
-//! Hosts: nodes that are processes of their own, each of which keeps the slots from a base of its own on. What each shows of
-//! a world it goes on showing, whatever the others do. Each function is a law.
+//! Hosts: nodes that are processes of their own, each of which keeps the slots from a base of its own on. What each shows
+//! of a world it goes on showing, whatever the others do. Each function is a law.
 #![tactic(auto)]
 
 mod laws;

@@ -1,11 +1,11 @@
 use Rattle.forgetting.proofs.Exact.{one_exact}
-use Rattle.cluster.proofs.Histories.{snapshot_of, snapshot_stays}
-use Rattle.cluster.proofs.Returning.{host_catches_up, comes_back}
-use Rattle.cluster.proofs.Told.{every_tells}
+use Rattle.cluster.proofs.catching_up.Histories.{snapshot_of, snapshot_stays}
+use Rattle.cluster.proofs.catching_up.ComingBack.{host_catches_up, comes_back}
+use Rattle.cluster.proofs.catching_up.Told.{every_tells}
 use Rattle.cluster.proofs.laws.snapshots.Goals as goal
 
 pub returns-clause-decided : goal.returns-clause-decided
-returns-clause-decided g c = λ w n s k is e. (every_tells c.ballot_laws.ensures g.O.Object.rules w is).known n s k e
+returns-clause-decided g c = λ w is n s k e. (every_tells c.ballot_laws.ensures g.O.Object.rules w is).known n s k e
 
 pub returns-clause-hands_on : goal.returns-clause-hands_on
 returns-clause-hands_on g c = λ s n w is shows. snapshot_of c.ballot_laws.ensures g.O.Object.rules s n w is shows

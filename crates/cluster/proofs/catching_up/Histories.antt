@@ -23,8 +23,8 @@ use Rattle.agreement.proofs.books.SlotBooksEvery.{books}
 use Rattle.agreement.proofs.every.Every.{agrees, is_decided, decides_what_is_chosen, within_reach}
 use Rattle.cluster.specs.Hosts.{HostState, ShowsHost}
 use Rattle.cluster.specs.Snapshots.{IsToldToAll, AreToldFrom, IsSnapshot}
-use Rattle.cluster.proofs.Elsewhere.{step_adds}
-use Rattle.cluster.proofs.Told.{every_tells}
+use Rattle.cluster.proofs.alone.Elsewhere.{step_adds}
+use Rattle.cluster.proofs.catching_up.Told.{every_tells}
 
 module _ {C : Type 0} (k : Cluster C) (decisions : Slots C) where
   abbrev listed : ℕ → ℕ → List C

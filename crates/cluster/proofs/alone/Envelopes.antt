@@ -10,7 +10,7 @@ use Rattle.ballot.specs.Rests.{rest_of_body, rest_of_letter, rests}
 use Rattle.agreement.specs.Nodes.{Cluster}
 use Rattle.forgetting.proofs.Bases.{pvalues_twice}
 use Rattle.forgetting.proofs.Nodes.{left}
-use Rattle.cluster.specs.Hosts.{AreEnvelopesOf, IsLegible}
+use Rattle.cluster.specs.Envelopes.{AreEnvelopesOf, IsLegible}
 
 module _ {C : Type 0} (base : ℕ) where
   -- a rest is of a letter

@@ -12,7 +12,8 @@ use Rattle.node.specs.Receiving.{ShowsNode}
 use Rattle.node.specs.Rests.{rest_of_node}
 use Rattle.agreement.specs.Nodes.{Cluster, node}
 use Rattle.forgetting.proofs.Bases.{node_twice, pvalues_twice, rest_keeps}
-use Rattle.cluster.specs.Hosts.{HostState, ShowsHost, Stored, IsStored, compacted, forgotten_host}
+use Rattle.cluster.specs.Hosts.{HostState, ShowsHost, forgotten_host}
+use Rattle.cluster.specs.Storing.{Stored, IsStored, compacted}
 
 pub node_forgets : {C : Type 0} (low high : ℕ) → low ≤ high → (kept x : NodeState C) → ShowsNode kept (rest_of_node low x)
     → ShowsNode (rest_of_node high kept) (rest_of_node high x)

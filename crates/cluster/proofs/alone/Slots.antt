@@ -26,7 +26,7 @@ use Rattle.agreement.proofs.books.SlotBooksEvery.{books}
 use Rattle.forgetting.specs.Asking.{IsLastOfSession}
 use Rattle.forgetting.specs.Holding.{AsksForLast}
 use Rattle.forgetting.proofs.Gone.{flat_In, option_In}
-use Rattle.cluster.specs.Acting.{IsLastSubmitted, AsksForLastSubmitted}
+use Rattle.cluster.specs.Asking.{IsLastSubmitted, AsksForLastSubmitted}
 
 nowhere : {X : Type 0} (o : Option X) → ((x : X) → o ≡ Some x → ⊥) → o ≡ None
 nowhere None h = refl

@@ -40,7 +40,7 @@ use Rattle.agreement.proofs.every.Every.{goes_on}
 use Rattle.forgetting.proofs.Bases.{above_twice}
 use Rattle.cluster.specs.CatchingUp.{IsCatchingUp, proposed_upto}
 use Rattle.cluster.specs.Snapshots.{IsToldToAll, AreToldFrom}
-use Rattle.cluster.proofs.Acting.{number_in}
+use Rattle.cluster.proofs.alone.Acting.{number_in}
 
 -- a map by slot, where what changed is below the base
 module _ {X : Type 0} where

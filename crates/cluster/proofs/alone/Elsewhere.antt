@@ -15,7 +15,9 @@ use Rattle.agreement.specs.Steps.{Step, submit, deliver, wake, nudge, propose, p
 use Rattle.agreement.specs.Worlds.{World}
 use Rattle.agreement.specs.declared.event.Event.{Event}
 use Rattle.cluster.specs.Elsewhere.{IsElsewhere}
-use Rattle.cluster.specs.Hosts.{HostState, Envelope, ShowsHost, IsEnvelopeOf, Stored, IsStored}
+use Rattle.cluster.specs.Hosts.{HostState, ShowsHost}
+use Rattle.cluster.specs.Envelopes.{Envelope, IsEnvelopeOf}
+use Rattle.cluster.specs.Storing.{Stored, IsStored}
 use Rattle.acceptor.specs.Acceptors.{Keeps}
 use Rattle.acceptor.specs.Rests.{rest_of_acceptor}
 

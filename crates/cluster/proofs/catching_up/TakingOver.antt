@@ -30,8 +30,8 @@ use Rattle.agreement.proofs.every.Every.{is_given}
 use Rattle.agreement.proofs.chosen.Growing.{happenings_go_on}
 use Rattle.cluster.specs.CatchingUp.{CatchesUp, proposed_upto}
 use Rattle.cluster.specs.Snapshots.{AreToldFrom, IsSnapshot}
-use Rattle.cluster.proofs.CatchingUp.{HasCome, has_come, comes_to, at_slot}
-use Rattle.cluster.proofs.Histories.{history_told, told_from_adds}
+use Rattle.cluster.proofs.catching_up.CatchingUp.{HasCome, has_come, comes_to, at_slot}
+use Rattle.cluster.proofs.catching_up.Histories.{history_told, told_from_adds}
 
 -- where the acceptors are the same, the same is chosen
 module _ {Op : Type 0} (k z : Cluster (Command Op)) (members : z.members ≡ k.members) (same : (m : ℕ) → (node z m).acceptor ≡ (node k m).acceptor) where

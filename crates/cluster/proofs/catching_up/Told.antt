@@ -35,12 +35,9 @@ use Rattle.agreement.proofs.chosen.Invariants.{IsFair, IsSound}
 use Rattle.agreement.proofs.chosen.Reach.{opened_at, reachable_sound}
 use Rattle.agreement.proofs.chosen.Sets.{In-numbers}
 use Rattle.agreement.proofs.chosen.Turns.{here, there}
+use Rattle.forgetting.proofs.Gone.{map_In}
 use Rattle.cluster.specs.Snapshots.{IsToldToAll}
 
-pub map_In : {A B : Type 0} (f : A → B) (y : B) (xs : List A) → In y (map f xs) → (x : A) × In x xs × (y ≡ f x)
-map_In f y [] i = absurd i
-map_In f y (x ∷ xs) (inl e) = (x, inl refl, e)
-map_In f y (x ∷ xs) (inr i) = let r = map_In f y xs i in (r.0, inr r.1, r.2)
 
 module _ {C : Type 0} where
   -- what one member is sent of what goes to all, each is sent

@@ -1,5 +1,5 @@
 -- A host catches up by a snapshot, as it runs or as it comes back.
-use Rattle.cluster.proofs.Acting.{above_each}
+use Rattle.cluster.proofs.alone.Acting.{above_each}
 use Rattle.node.specs.SlotLaws.{none_in_empty}
 use Rattle.ballot.specs.Rests.{kept_from}
 use Rattle.object.specs.Lists.{In}
@@ -35,12 +35,14 @@ use Rattle.agreement.proofs.chosen.Reach.{reachable_sound}
 use Rattle.agreement.proofs.chosen.Turns as turns
 use Rattle.agreement.proofs.every.Every.{goes_on}
 use Rattle.forgetting.proofs.Bases.{pvalues_twice, rest_keeps}
-use Rattle.cluster.specs.CatchingUp.{CatchesUp, ComesBack, HasProposedInVain, caught_up, back_again, proposed_upto}
-use Rattle.cluster.specs.Hosts.{HostState, ShowsHost, Stored, IsStored}
+use Rattle.cluster.specs.CatchingUp.{CatchesUp, HasProposedInVain, caught_up, proposed_upto}
+use Rattle.cluster.specs.ComingBack.{ComesBack, restarted_host}
+use Rattle.cluster.specs.Hosts.{HostState, ShowsHost}
+use Rattle.cluster.specs.Storing.{Stored, IsStored}
 use Rattle.cluster.specs.Snapshots.{IsSnapshot}
-use Rattle.cluster.proofs.Forgets.{node_forgets}
-use Rattle.cluster.proofs.Histories.{snapshot_stays}
-use Rattle.cluster.proofs.Takeover.{takes_snapshot}
+use Rattle.cluster.proofs.alone.Forgetting.{node_forgets}
+use Rattle.cluster.proofs.catching_up.Histories.{snapshot_stays}
+use Rattle.cluster.proofs.catching_up.TakingOver.{takes_snapshot}
 
 module _ (laws : BallotLaws) {O Op Reply : Type 0} (filter : FilterLaws Op) (rules : Rules O Op Reply)
     (exact : (a b : Command Op) → is_one rules a b ≡ true → a ≡ b) where
@@ -99,7 +101,7 @@ module _ (laws : BallotLaws) {O Op Reply : Type 0} (filter : FilterLaws Op) (rul
     here = turns.here laws w.cluster (reachable_sound laws rules w i.reachable) n member x []
 
     abbrev h : NodeState (Command Op)
-    h = (back_again w.cluster.members n d slot object).holding.state
+    h = (restarted_host w.cluster.members n d slot object).holding.state
 
     abbrev shown : NodeState (Command Op) → NodeState (Command Op)
     shown y = rest_of_node slot (record y {

@@ -35,25 +35,31 @@ use Rattle.agreement.specs.declared.event.Event.{Event}
 use Rattle.agreement.specs.declared.event.Event.TheVariants.{Deliver, Restart}
 use Rattle.agreement.proofs.order.OneOrder.{leads_later}
 use Rattle.agreement.proofs.every.Every.{goes_on, counts, submitted_once, opens as opens_world}
-use Rattle.cluster.specs.Acting.{IsLastSubmitted, AsksForUnknown, HostActs, asked}
-use Rattle.cluster.specs.CatchingUp.{CatchesUp, caught_up, back_again}
+use Rattle.cluster.specs.Asking.{AsksForUnknown, asked}
+use Rattle.cluster.specs.Acting.{HostActs}
+use Rattle.cluster.specs.CatchingUp.{CatchesUp, caught_up}
+use Rattle.cluster.specs.ComingBack.{restarted_host}
 use Rattle.cluster.specs.Elsewhere.{IsElsewhere}
-use Rattle.cluster.specs.Hosts.{HostState, Envelope, ShowsHost, IsEnvelopeOf, AreEnvelopesOf, Stored, IsStored, stored_after, booted, compacted, host_turn, with_holding, with_state, forgotten_host}
+use Rattle.cluster.specs.Hosts.{HostState, ShowsHost, host_turn, with_holding, with_state, forgotten_host}
+use Rattle.cluster.specs.Envelopes.{Envelope, IsEnvelopeOf, AreEnvelopesOf}
+use Rattle.cluster.specs.Storing.{Stored, IsStored, new_stored, stored_after, booted, compacted}
 use Rattle.cluster.specs.Snapshots.{IsSnapshot}
-use Rattle.cluster.specs.Together.{Hosts, Goes, hands_in, asks, acts, relays, receives, forgets, compacts, hands_on, catches_up, comes_back, AreHosts, at_first, later, IsGoingOn}
-use Rattle.cluster.specs.Together.{IsPartOf, ShowHosts, new_hosts, with_at, count_from, total, with_handed, labelled, host_turned, host_acted}
-use Rattle.cluster.proofs.Acting.{acts_unknown, acts_last}
-use Rattle.cluster.proofs.Acting as acting
-use Rattle.cluster.proofs.Counting.{yes, no, count_more}
-use Rattle.cluster.proofs.Elsewhere.{step_leaves, step_adds, leaves_host, leaves_stored, adds_envelope}
-use Rattle.cluster.proofs.Forgets.{host_forgets, stored_compacts}
-use Rattle.cluster.proofs.Happened.{nothing_part, answered_part, told_part, relayed_part, asked_part}
-use Rattle.cluster.proofs.Happened.{submitted_before, submitted_still, submitted_now, submitted_own}
-use Rattle.cluster.proofs.Histories.{snapshot_of, snapshot_stays, told_from_adds}
-use Rattle.cluster.proofs.Opening.{opens}
-use Rattle.cluster.proofs.Returning.{host_catches_up}
-use Rattle.cluster.proofs.Returning as returning
-use Rattle.cluster.proofs.Told.{map_In}
+use Rattle.cluster.specs.Clusters.{Hosts, new_hosts, with_at, events_from, total_events, with_handed, labelled, host_turned, host_acted}
+use Rattle.cluster.specs.Steps.{ClusterStep, hands_in, asks, acts, relays, receives, forgets, compacts, hands_on, catches_up, comes_back, AreHosts, at_first, later, IsInternal}
+use Rattle.cluster.specs.Showing.{IsPartOf, IsHandedIn, ShowHosts}
+use Rattle.cluster.proofs.alone.Acting.{acts_unknown}
+use Rattle.cluster.proofs.alone.Acting as acting
+use Rattle.cluster.proofs.together.Counting.{yes, no, count_more}
+use Rattle.cluster.proofs.alone.Elsewhere.{step_leaves, step_adds, leaves_host, leaves_stored, adds_envelope}
+use Rattle.cluster.proofs.alone.Forgetting.{host_forgets, stored_compacts}
+use Rattle.cluster.proofs.together.Happened.{nothing_part, answered_part, told_part, relayed_part, asked_part}
+use Rattle.cluster.proofs.together.Happened.{submitted_before}
+use Rattle.cluster.proofs.together.HandingIn.{handed_still, handed_more}
+use Rattle.cluster.proofs.catching_up.Histories.{snapshot_of, snapshot_stays, told_from_adds}
+use Rattle.cluster.proofs.alone.Opening.{opens}
+use Rattle.cluster.proofs.catching_up.ComingBack.{host_catches_up}
+use Rattle.cluster.proofs.catching_up.ComingBack as returning
+use Rattle.forgetting.proofs.Gone.{map_In}
 
 module _ {X : Type 0} (host : ℕ → X) (n : ℕ) (s : X) where
   other_at : (m : ℕ) → m ≢ n → with_at host n s m ≡ host m
@@ -68,28 +74,6 @@ module _ {X : Type 0} (host : ℕ → X) (n : ℕ) (s : X) (P : ℕ → X → Ty
       (λ (e : m ≡ n). subst (P m) (sym (ap (λ b. cond b s (host m)) (yes m n e))) (subst (λ j. P j s) (sym e) here))
       (λ (apart : m ≢ n). subst (P m) (sym (ap (λ b. cond b s (host m)) (no m n apart))) (there m apart))
       (cases_eq m n)
-
--- the commands, with one more of node n
-module _ {Op : Type 0} (handed : ℕ → List (Command Op)) (n : ℕ) (c : Command Op) where
-  handed_cases : (m : ℕ) (d : Command Op) → In d (with_handed handed n c m) → In d (handed m) ⊎ (d ≡ c)
-  handed_cases m d = at (m == n)
-    where
-      at : (b : Bool) → In d (cond b (handed m ++ (c ∷ [])) (handed m)) → In d (handed m) ⊎ (d ≡ c)
-      at true i = ⊎_elim
-          (λ (j : In d (handed m)). inl j)
-          (λ (j : In d (c ∷ [])). ⊎_elim (λ (e : d ≡ c). inr e) (λ none. absurd none) j)
-          (In-cases d (handed m) (c ∷ []) i)
-      at false i = inl i
-
-  handed_still : (m : ℕ) (d : Command Op) → In d (handed m) → In d (with_handed handed n c m)
-  handed_still m d i = at (m == n)
-    where
-      at : (b : Bool) → In d (cond b (handed m ++ (c ∷ [])) (handed m))
-      at true = In-left d (handed m) (c ∷ []) i
-      at false = i
-
-  handed_now : (m : ℕ) → m ≡ n → In c (with_handed handed n c m)
-  handed_now m e = subst (λ b. In c (cond b (handed m ++ (c ∷ [])) (handed m))) (sym (yes m n e)) (In-right c (handed m) (c ∷ []) (inl refl))
 
 -- one event, and then others
 leads_first : {O Op Reply : Type 0} (rules : Rules O Op Reply) (w u : World Op Reply) (e : Event Op) → Step rules w e u
@@ -107,8 +91,8 @@ same_base d (Propose s c) = refl
 same_base d (Decision s c) = refl
 same_base d (Ask s) = refl
 
-new_stored : {Op : Type 0} (members : List ℕ) (n : ℕ) → IsStored {Op = Op} (record { base = 0; acceptor = new_acceptor; boot = 0 }) n (new_cluster members)
-new_stored {Op} members n =
+stored_at_first : {Op : Type 0} (members : List ℕ) (n : ℕ) → IsStored {Op = Op} new_stored n (new_cluster members)
+stored_at_first {Op} members n =
     let new : node (new_cluster {C = Command Op} members) n ≡ new_node members n = new_in members (length members) n in
     record {
       acceptor = subst (λ (x : NodeState (Command Op)). Keeps (rest_of_acceptor 0 x.acceptor) new_acceptor) (sym new)
@@ -132,10 +116,10 @@ module _ (laws : BallotLaws) {O Op Reply : Type 0} (filter : FilterLaws Op) (rul
     is = opens_world laws rules members;
     members = refl;
     hosts = λ n member. opens rules members n member;
-    stored = λ n member. new_stored members n;
+    stored = λ n member. stored_at_first members n;
     low = λ n. omega arith;
-    handed = λ n c i. absurd i;
-    owned = λ s i. absurd i;
+    handed = record { owned = λ n c i. absurd i; one = λ n c d i j e. absurd i };
+    submitted = λ s i. absurd i;
     envelopes = λ p i. absurd i;
     snapshots = λ slot object i. ⊎_elim
         (λ (e : (slot, object) ≡ (1, new_object rules)). record {
@@ -162,15 +146,14 @@ module _ (laws : BallotLaws) {O Op Reply : Type 0} (filter : FilterLaws Op) (rul
     still_shown z shown = by_leads z [] w at_once shown
 
     -- an event at node n
-    module _ (n : ℕ) (s : HostState Op O) (sent : List (Letter (Command Op))) (h : Happenings Op Reply) (handed : ℕ → List (Command Op))
+    module _ (n : ℕ) (s : HostState Op O) (sent : List (Letter (Command Op))) (h : Happenings Op Reply)
         (stored : ℕ → Stored Op) (v : World Op Reply) (e : Event Op) (step : Step rules w e v) (away : (m : ℕ) → m ≢ n → IsElsewhere m w e)
         (shows : ShowsHost rules s n v.cluster) (envelopes : AreEnvelopesOf s.base sent v.cluster) (happened : IsPartOf h v.happenings)
-        (was : (m : ℕ) (c : Command Op) → In c (handed m) → WasSubmitted c v.happenings.submitted)
-        (owned : (t : Submission Op) → In t v.happenings.submitted → In t.command (handed (owner t.command.key.session)))
+        (submitted : (t : Submission Op) → In t v.happenings.submitted → In t.command (k.handed (owner t.command.key.session)))
         (own : IsStored (stored n) n v.cluster) (rest : (m : ℕ) → m ≢ n → stored m ≡ k.stored m)
-        (low_own : (stored n).base ≤ s.base) (member : is_member k.members n ≡ true) (room : total k < most_events) where
+        (low_own : (stored n).base ≤ s.base) (member : is_member k.members n ≡ true) (room : total_events k < most_events) where
       abbrev then : Hosts Op O Reply
-      then = record (host_turned k n s sent h) { handed = handed; stored = stored }
+      then = record (host_turned k n s sent h) { stored = stored }
 
       event_shows : Shown then w
       event_shows =
@@ -190,8 +173,8 @@ module _ (laws : BallotLaws) {O Op Reply : Type 0} (filter : FilterLaws Op) (rul
                 (cases_eq m n);
             low = each_host k.host n s (λ m z. (stored m).base ≤ z.base) low_own
                 (λ m apart. subst (λ (d : Stored Op). d.base ≤ (k.host m).base) (sym (rest m apart)) (show.low m));
-            handed = was;
-            owned = owned;
+            handed = show.handed;
+            submitted = submitted;
             envelopes = λ p i. ⊎_elim
                 (λ (j : In p k.envelopes). adds_envelope rules p w.cluster v.cluster adds (show.envelopes p j))
                 (λ (j : In p (labelled s.base sent)).
@@ -204,50 +187,33 @@ module _ (laws : BallotLaws) {O Op Reply : Type 0} (filter : FilterLaws Op) (rul
           })
 
     -- a deed
-    module _ (n : ℕ) (d : Deed Op) (a : HostActs rules (k.host n) n d w) (kept : IsStored (k.stored n) n w.cluster) (handed : ℕ → List (Command Op))
-        (was : (m : ℕ) (c : Command Op) → In c (handed m) → WasSubmitted c (asked d w.happenings).submitted)
-        (owned : (t : Submission Op) → In t (asked d w.happenings).submitted → In t.command (handed (owner t.command.key.session)))
-        (member : is_member k.members n ≡ true) (room : total k < most_events) where
-      deed_shows : Shown (record (host_acted rules k n d) { handed = handed }) w
+    module _ (n : ℕ) (d : Deed Op) (a : HostActs rules (k.host n) n d w) (kept : IsStored (k.stored n) n w.cluster)
+        (submitted : (t : Submission Op) → In t (asked d w.happenings).submitted → In t.command (k.handed (owner t.command.key.session)))
+        (member : is_member k.members n ≡ true) (room : total_events k < most_events) where
+      deed_shows : Shown (host_acted rules k n d) w
       deed_shows =
           let given = (host_turn rules (k.host n) d).answers in
           event_shows n (with_holding (k.host n) (host_turn rules (k.host n) d).state) (host_turn rules (k.host n) d).sent
-          (with_answers given (asked d k.happenings)) handed k.stored a.world (event_of n d) a.step (λ m apart. deed_elsewhere w n m d apart) a.shows a.sent
+          (with_answers given (asked d k.happenings)) k.stored a.world (event_of n d) a.step (λ m apart. deed_elsewhere w n m d apart) a.shows a.sent
           (subst (IsPartOf (with_answers given (asked d k.happenings))) (sym a.happenings)
           (answered_part (asked d k.happenings) (asked d w.happenings) (asked_part k.happenings w.happenings show.happenings d) given))
-          (λ m c i. subst (λ (h : Happenings Op Reply). WasSubmitted c h.submitted) (sym a.happenings) (was m c i))
-          (λ t i. owned t (subst (λ (h : Happenings Op Reply). In t h.submitted) a.happenings i))
+          (λ t i. submitted t (subst (λ (h : Happenings Op Reply). In t h.submitted) a.happenings i))
           (a.stored (k.stored n) kept) (λ m apart. refl) (show.low n) member room
 
     -- what was handed in is its key's own
     own_there : (m : ℕ) (c : Command Op) → In c (k.handed m) → IsItsOwn c w.happenings.submitted
-    own_there m c i = submitted_own c w.happenings.submitted (submitted_once rules w show.is) (show.handed m c i)
-
-    -- a new command of a session is the last
-    last_there : (n : ℕ) (c : Command Op) → owner c.key.session ≡ n
-        → ((d : Command Op) → In d (k.handed n) → d.key.session ≡ c.key.session → d.key.number < c.key.number)
-        → IsLastSubmitted c w.happenings.submitted
-    last_there n c mine above = record {
-      own = λ t i e.
-          let same = same_is t.command.key c.key e in
-          let less = before t i (ap (λ (q : Key). q.session) same) in
-          let number = ap (λ (q : Key). q.number) same in
-          absurd (omega (arith, less, number));
-      last = λ t i e. let less = before t i e in omega (arith, less);
-    }
-      where
-        before : (t : Submission Op) → In t w.happenings.submitted → t.command.key.session ≡ c.key.session → t.command.key.number < c.key.number
-        before t i e = above t.command (subst (λ m. In t.command (k.handed m)) (ap owner e ∙ mine) (show.owned t i)) e
+    own_there m c i t j same =
+        let key = same_is t.command.key c.key same in
+        let mine = ap (λ (q : Key). owner q.session) key ∙ show.handed.owned m c i in
+        show.handed.one m t.command c (subst (λ o. In t.command (k.handed o)) mine (show.submitted t j)) i key
 
     -- a command that was handed in is asked for
     asks_owned : (m : ℕ) (c : Command Op) → In c (k.handed m) → (t : Submission Op) → In t (with_submission c w.happenings).submitted
         → In t.command (k.handed (owner t.command.key.session))
     asks_owned m c i t j = ⊎_elim
-        (λ (old : In t w.happenings.submitted). show.owned t old)
-        (λ (e : t.command ≡ c).
-        let was = show.handed m c i in
-        let same : was.0.command ≡ t.command = was.2 ∙ sym e in
-        subst (λ (d : Command Op). In d (k.handed (owner d.key.session))) same (show.owned was.0 was.1))
+        (λ (old : In t w.happenings.submitted). show.submitted t old)
+        (λ (e : t.command ≡ c). subst (λ (d : Command Op). In d (k.handed (owner d.key.session))) (sym e)
+        (subst (λ o. In c (k.handed o)) (sym (show.handed.owned m c i)) i))
         (submitted_before c w.happenings t j)
 
   -- all but host n show the world
@@ -257,8 +223,8 @@ module _ (laws : BallotLaws) {O Op Reply : Type 0} (filter : FilterLaws Op) (rul
     pub hosts : (m : ℕ) → m ≢ n → is_member k.members m ≡ true → ShowsHost rules (k.host m) m w.cluster
     pub stored : (m : ℕ) → m ≢ n → is_member k.members m ≡ true → IsStored (k.stored m) m w.cluster
     pub low : (m : ℕ) → m ≢ n → (k.stored m).base ≤ (k.host m).base
-    pub handed : (n : ℕ) (c : Command Op) → In c (k.handed n) → WasSubmitted c w.happenings.submitted
-    pub owned : (s : Submission Op) → In s w.happenings.submitted → In s.command (k.handed (owner s.command.key.session))
+    pub handed : IsHandedIn owner k.handed
+    pub submitted : (s : Submission Op) → In s w.happenings.submitted → In s.command (k.handed (owner s.command.key.session))
     pub envelopes : (p : Envelope (Command Op)) → In p k.envelopes → IsEnvelopeOf p w.cluster
     pub snapshots : (slot : ℕ) (object : Filtered O) → In (slot, object) k.snapshots → IsSnapshot rules slot object w
     pub happenings : IsPartOf k.happenings w.happenings
@@ -271,7 +237,7 @@ module _ (laws : BallotLaws) {O Op Reply : Type 0} (filter : FilterLaws Op) (rul
     stored = λ m apart member. show.stored m member;
     low = λ m apart. show.low m;
     handed = show.handed;
-    owned = show.owned;
+    submitted = show.submitted;
     envelopes = show.envelopes;
     snapshots = show.snapshots;
     happenings = show.happenings;
@@ -279,7 +245,7 @@ module _ (laws : BallotLaws) {O Op Reply : Type 0} (filter : FilterLaws Op) (rul
 
   -- as host n restarts
   restarted_shows : (k : Hosts Op O Reply) (w : World Op Reply) → ShowHosts rules owner k w → (n : ℕ) (v : World Op Reply) → Step rules w (Restart n) v
-      → v.happenings ≡ w.happenings → total k < most_events → ShowOthers k n v
+      → v.happenings ≡ w.happenings → total_events k < most_events → ShowOthers k n v
   restarted_shows k w show n v step happened room =
       let adds = step_adds rules w v (Restart n) step in
       let low = show.taken in
@@ -289,8 +255,8 @@ module _ (laws : BallotLaws) {O Op Reply : Type 0} (filter : FilterLaws Op) (rul
         hosts = λ m apart member. leaves_host rules (k.host m) m w.cluster v.cluster (step_leaves rules m w v (Restart n) step apart) (show.hosts m member);
         stored = λ m apart member. leaves_stored rules (k.stored m) m w.cluster v.cluster (step_leaves rules m w v (Restart n) step apart) (show.stored m member);
         low = λ m apart. show.low m;
-        handed = λ m c i. subst (λ (h : Happenings Op Reply). WasSubmitted c h.submitted) (sym happened) (show.handed m c i);
-        owned = λ t i. show.owned t (subst (λ (h : Happenings Op Reply). In t h.submitted) happened i);
+        handed = show.handed;
+        submitted = λ t i. show.submitted t (subst (λ (h : Happenings Op Reply). In t h.submitted) happened i);
         envelopes = λ p i. adds_envelope rules p w.cluster v.cluster adds (show.envelopes p i);
         snapshots = λ slot object i. snapshot_stays laws rules slot object w v (Restart n) step (show.snapshots slot object i);
         happenings = subst (IsPartOf k.happenings) (sym happened) show.happenings;
@@ -298,7 +264,7 @@ module _ (laws : BallotLaws) {O Op Reply : Type 0} (filter : FilterLaws Op) (rul
 
   -- a host catches up
   module _ (k : Hosts Op O Reply) (n : ℕ) (w : World Op Reply) (show : ShowOthers k n w) where
-    module _ (s : HostState Op O) (catches : CatchesUp rules s n w) (taken : ℕ → ℕ) (count : catches.world.taken ≤ count_from taken 1 (length k.members))
+    module _ (s : HostState Op O) (catches : CatchesUp rules s n w) (taken : ℕ → ℕ) (count : catches.world.taken ≤ events_from taken 1 (length k.members))
         (stored : ℕ → Stored Op) (own : IsStored (stored n) n w.cluster) (rest : (m : ℕ) → m ≢ n → stored m ≡ k.stored m) (low_own : (stored n).base ≤ s.base) where
       catching_shows : ShowHosts rules owner (record k { host = with_at k.host n s; stored = stored; taken = taken }) catches.world
       catching_shows =
@@ -317,8 +283,8 @@ module _ (laws : BallotLaws) {O Op Reply : Type 0} (filter : FilterLaws Op) (rul
                 (cases_eq m n));
             low = each_host k.host n s (λ m z. (stored m).base ≤ z.base) low_own
                 (λ m apart. subst (λ (d : Stored Op). d.base ≤ (k.host m).base) (sym (rest m apart)) (show.low m apart));
-            handed = λ m c i. subst (WasSubmitted c) (sym catches.submitted) (show.handed m c i);
-            owned = λ t i. show.owned t (subst (In t) catches.submitted i);
+            handed = show.handed;
+            submitted = λ t i. show.submitted t (subst (In t) catches.submitted i);
             envelopes = λ p i. adds_envelope rules p w.cluster v.cluster (record { sent = sent; same = catches.members }) (show.envelopes p i);
             snapshots = λ slot object i.
                 let old = show.snapshots slot object i in
@@ -337,12 +303,12 @@ module _ (laws : BallotLaws) {O Op Reply : Type 0} (filter : FilterLaws Op) (rul
             taken = count;
           }
 
-  earlier_room : (k z : Hosts Op O Reply) → Goes rules owner k z → total z ≤ most_events → total k ≤ most_events
-  earlier_room k z (hands_in n c member mine above) room = let more = count_more k.members k.taken n 1 member in omega (arith, room, more)
+  earlier_room : (k z : Hosts Op O Reply) → ClusterStep rules owner k z → total_events z ≤ most_events → total_events k ≤ most_events
+  earlier_room k z (hands_in n c mine own) room = room
   earlier_room k z (asks n m c member within unknown) room = let more = count_more k.members k.taken n 1 member in omega (arith, room, more)
-  earlier_room k z (acts n d member going) room = let more = count_more k.members k.taken n 1 member in omega (arith, room, more)
+  earlier_room k z (acts n d member internal) room = let more = count_more k.members k.taken n 1 member in omega (arith, room, more)
   earlier_room k z (relays a within) room = room
-  earlier_room k z (receives n p left new sent member within to may left_is received) room = let more = count_more k.members k.taken n 1 member in omega (arith, room, more)
+  earlier_room k z (receives n p left new sent member within reads received) room = let more = count_more k.members k.taken n 1 member in omega (arith, room, more)
   earlier_room k z (forgets n base member more out) room = room
   earlier_room k z (compacts n base member more below) room = room
   earlier_room k z (hands_on n member) room = room
@@ -350,75 +316,71 @@ module _ (laws : BallotLaws) {O Op Reply : Type 0} (filter : FilterLaws Op) (rul
       let more = count_more k.members k.taken n (2 * (slot - (k.host n).holding.state.replica.slot_out)) member in omega (arith, room, more)
   earlier_room k z (comes_back n slot object member within low) room = let more = count_more k.members k.taken n (1 + 2 * slot) member in omega (arith, room, more)
 
-  going_asks : (s : HostState Op O) (d : Deed Op) (submitted : List (Submission Op)) → IsGoingOn d → AsksForUnknown s d submitted
-  going_asks s (deeds.Request c) submitted going = absurd going
-  going_asks s deeds.Wake submitted going = tt
-  going_asks s deeds.Nudge submitted going = tt
-  going_asks s deeds.Propose submitted going = tt
-  going_asks s deeds.Perform submitted going = tt
-  going_asks s deeds.Restart submitted going = absurd going
+  internal_asks : (s : HostState Op O) (d : Deed Op) (submitted : List (Submission Op)) → IsInternal d → AsksForUnknown s d submitted
+  internal_asks s (deeds.Request c) submitted internal = absurd internal
+  internal_asks s deeds.Wake submitted internal = tt
+  internal_asks s deeds.Nudge submitted internal = tt
+  internal_asks s deeds.Propose submitted internal = tt
+  internal_asks s deeds.Perform submitted internal = tt
+  internal_asks s deeds.Restart submitted internal = absurd internal
 
-  going_asked : (d : Deed Op) (h : Happenings Op Reply) → IsGoingOn d → asked d h ≡ h
-  going_asked (deeds.Request c) h going = absurd going
-  going_asked deeds.Wake h going = refl
-  going_asked deeds.Nudge h going = refl
-  going_asked deeds.Propose h going = refl
-  going_asked deeds.Perform h going = refl
-  going_asked deeds.Restart h going = absurd going
+  internal_asked : (d : Deed Op) (h : Happenings Op Reply) → IsInternal d → asked d h ≡ h
+  internal_asked (deeds.Request c) h internal = absurd internal
+  internal_asked deeds.Wake h internal = refl
+  internal_asked deeds.Nudge h internal = refl
+  internal_asked deeds.Propose h internal = refl
+  internal_asked deeds.Perform h internal = refl
+  internal_asked deeds.Restart h internal = absurd internal
 
-  pub goes_shows : (k z : Hosts Op O Reply) (w : World Op Reply) → ShowHosts rules owner k w → Goes rules owner k z → total z ≤ most_events → Shown z w
-  goes_shows k z w show (hands_in n c member mine above) room =
-      let last = last_there k w show n c mine above in
-      deed_shows k w show n (deeds.Request c) (acts_last laws filter rules exact itself (k.host n) n w show.is (show.hosts n member) (deeds.Request c) last) (show.stored n member)
-      (with_handed k.handed n c)
-      (λ m d i. ⊎_elim
-      (λ (j : In d (k.handed m)). submitted_still c w.happenings d (show.handed m d j))
-      (λ (e : d ≡ c). subst (λ q. WasSubmitted q (with_submission c w.happenings).submitted) (sym e) (submitted_now c w.happenings last.own))
-      (handed_cases k.handed n c m d i))
-      (λ t i. ⊎_elim
-      (λ (j : In t w.happenings.submitted). handed_still k.handed n c (owner t.command.key.session) t.command (show.owned t j))
-      (λ (e : t.command ≡ c). subst (λ (q : Command Op). In q (with_handed k.handed n c (owner q.key.session))) (sym e)
-      (handed_now k.handed n c (owner c.key.session) mine))
-      (submitted_before c w.happenings t i))
-      member (let more = count_more k.members k.taken n 1 member in omega (arith, room, more))
-  goes_shows k z w show (asks n m c member within unknown) room =
+  pub step_shows : (k z : Hosts Op O Reply) (w : World Op Reply) → ShowHosts rules owner k w → ClusterStep rules owner k z → total_events z ≤ most_events → Shown z w
+  step_shows k z w show (hands_in n c mine own) room = still_shown k w show z (record {
+    is = show.is;
+    members = show.members;
+    hosts = show.hosts;
+    stored = show.stored;
+    low = show.low;
+    handed = handed_more k.handed n c owner show.handed mine own;
+    submitted = λ t i. handed_still k.handed n c (owner t.command.key.session) t.command (show.submitted t i);
+    envelopes = show.envelopes;
+    snapshots = show.snapshots;
+    happenings = show.happenings;
+    taken = show.taken;
+  })
+  step_shows k z w show (asks n m c member within unknown) room =
       deed_shows k w show n (deeds.Request c)
       (acts_unknown laws filter rules exact itself (k.host n) n w show.is (show.hosts n member) (deeds.Request c) (own_there k w show m c within, unknown)) (show.stored n member)
-      k.handed (λ j d i. submitted_still c w.happenings d (show.handed j d i)) (asks_owned k w show m c within) member (let more = count_more k.members k.taken n 1 member in omega (arith, room, more))
-  goes_shows k z w show (acts n d member going) room =
-      let same = going_asked d w.happenings going in
+      (asks_owned k w show m c within) member (let more = count_more k.members k.taken n 1 member in omega (arith, room, more))
+  step_shows k z w show (acts n d member internal) room =
+      let same = internal_asked d w.happenings internal in
       deed_shows k w show n d
-      (acts_unknown laws filter rules exact itself (k.host n) n w show.is (show.hosts n member) d (going_asks (k.host n) d w.happenings.submitted going)) (show.stored n member)
-      k.handed
-      (λ j c i. subst (λ (h : Happenings Op Reply). WasSubmitted c h.submitted) (sym same) (show.handed j c i))
-      (λ t i. show.owned t (subst (λ (h : Happenings Op Reply). In t h.submitted) same i))
+      (acts_unknown laws filter rules exact itself (k.host n) n w show.is (show.hosts n member) d (internal_asks (k.host n) d w.happenings.submitted internal)) (show.stored n member)
+      (λ t i. show.submitted t (subst (λ (h : Happenings Op Reply). In t h.submitted) same i))
       member (let more = count_more k.members k.taken n 1 member in omega (arith, room, more))
-  goes_shows k z w show (relays a within) room = still_shown k w show z (record {
+  step_shows k z w show (relays a within) room = still_shown k w show z (record {
     is = show.is;
     members = show.members;
     hosts = show.hosts;
     stored = show.stored;
     low = show.low;
     handed = show.handed;
-    owned = show.owned;
+    submitted = show.submitted;
     envelopes = show.envelopes;
     snapshots = show.snapshots;
     happenings = relayed_part k.happenings w.happenings show.happenings a within;
     taken = show.taken;
   })
-  goes_shows k z w show (receives n p left new sent member within to may left_is received) room =
-      let r = acting.receives laws filter rules exact itself (k.host n) n w show.is (show.hosts n member) decide p (show.envelopes p within) to may left left_is new sent received in
+  step_shows k z w show (receives n p left new sent member within reads received) room =
+      let r = acting.receives laws filter rules exact itself (k.host n) n w show.is (show.hosts n member) decide p (show.envelopes p within) reads.receiver reads.legible left reads.rest new sent received in
       let d = stored_after (k.stored n) left in
-      event_shows k w show n (with_state (k.host n) new) sent k.happenings k.handed (with_at k.stored n d) r.world (Deliver r.place) r.step
+      event_shows k w show n (with_state (k.host n) new) sent k.happenings (with_at k.stored n d) r.world (Deliver r.place) r.step
       (λ m apart l at e. apart (e ∙ r.to l at)) r.shows r.envelopes
       (subst (IsPartOf k.happenings) (sym r.happenings) show.happenings)
-      (λ j c i. subst (λ (h : Happenings Op Reply). WasSubmitted c h.submitted) (sym r.happenings) (show.handed j c i))
-      (λ t i. show.owned t (subst (λ (h : Happenings Op Reply). In t h.submitted) r.happenings i))
+      (λ t i. show.submitted t (subst (λ (h : Happenings Op Reply). In t h.submitted) r.happenings i))
       (subst (λ q. IsStored q n r.world.cluster) (sym (own_at k.stored n d)) (r.stored (k.stored n) (show.low n) (show.stored n member)))
       (other_at k.stored n d)
       (let base = ap (λ (q : Stored Op). q.base) (own_at k.stored n d) ∙ same_base (k.stored n) left in let low = show.low n in omega (arith, base, low))
       member (let more = count_more k.members k.taken n 1 member in omega (arith, room, more))
-  goes_shows k z w show (forgets n base member more out) room = still_shown k w show z (record {
+  step_shows k z w show (forgets n base member more out) room = still_shown k w show z (record {
     is = show.is;
     members = show.members;
     hosts = each_host k.host n (forgotten_host base (k.host n)) (λ m s. is_member k.members m ≡ true → ShowsHost rules s m w.cluster)
@@ -428,13 +390,13 @@ module _ (laws : BallotLaws) {O Op Reply : Type 0} (filter : FilterLaws Op) (rul
     low = each_host k.host n (forgotten_host base (k.host n)) (λ m s. (k.stored m).base ≤ s.base)
         (let low = show.low n in omega (arith, low, more)) (λ m apart. show.low m);
     handed = show.handed;
-    owned = show.owned;
+    submitted = show.submitted;
     envelopes = show.envelopes;
     snapshots = show.snapshots;
     happenings = show.happenings;
     taken = show.taken;
   })
-  goes_shows k z w show (compacts n base member more below) room = still_shown k w show z (record {
+  step_shows k z w show (compacts n base member more below) room = still_shown k w show z (record {
     is = show.is;
     members = show.members;
     hosts = show.hosts;
@@ -443,20 +405,20 @@ module _ (laws : BallotLaws) {O Op Reply : Type 0} (filter : FilterLaws Op) (rul
         (λ m apart other. show.stored m other);
     low = each_host k.stored n (compacted base (k.stored n)) (λ m d. d.base ≤ (k.host m).base) below (λ m apart. show.low m);
     handed = show.handed;
-    owned = show.owned;
+    submitted = show.submitted;
     envelopes = show.envelopes;
     snapshots = show.snapshots;
     happenings = show.happenings;
     taken = show.taken;
   })
-  goes_shows k z w show (hands_on n member) room = still_shown k w show z (record {
+  step_shows k z w show (hands_on n member) room = still_shown k w show z (record {
     is = show.is;
     members = show.members;
     hosts = show.hosts;
     stored = show.stored;
     low = show.low;
     handed = show.handed;
-    owned = show.owned;
+    submitted = show.submitted;
     envelopes = show.envelopes;
     snapshots = λ slot object i. ⊎_elim
         (λ (j : In (slot, object) k.snapshots). show.snapshots slot object j)
@@ -468,7 +430,7 @@ module _ (laws : BallotLaws) {O Op Reply : Type 0} (filter : FilterLaws Op) (rul
     happenings = show.happenings;
     taken = show.taken;
   })
-  goes_shows k z w show (catches_up n slot object member within older none) room =
+  step_shows k z w show (catches_up n slot object member within older none) room =
       let low = show.taken in
       let more = count_more k.members k.taken n (2 * (slot - (k.host n).holding.state.replica.slot_out)) member in
       let shows = show.hosts n member in
@@ -480,18 +442,18 @@ module _ (laws : BallotLaws) {O Op Reply : Type 0} (filter : FilterLaws Op) (rul
       (catching_shows k n w (others_show k n w show) (caught_up slot object (k.host n)) c
       (with_at k.taken n (k.taken n + 2 * (slot - (k.host n).holding.state.replica.slot_out))) (omega (arith, low, out, count, older, more))
       k.stored (show.stored n member) (λ m apart. refl) (let d = show.low n in let past = shows.past in omega (arith, d, past, out, older)))
-  goes_shows k z w show (comes_back n slot object member within low) room =
+  step_shows k z w show (comes_back n slot object member within low) room =
       let taken = show.taken in
       let more = count_more k.members k.taken n (1 + 2 * slot) member in
       let there : is_member w.cluster.members n ≡ true = ap (λ ms. is_member ms n) show.members ∙ member in
       let b = returning.comes_back laws filter rules exact n (k.stored n) slot object w show.is there (show.stored n member) low (show.snapshots slot object within)
       (omega (arith, taken, room, more)) in
-      let s = back_again w.cluster.members n (k.stored n) slot object in
+      let s = restarted_host w.cluster.members n (k.stored n) slot object in
       let opened = restarted_shows k w show n b.opened b.step b.happenings (omega (arith, room, more)) in
       let few = counts laws rules w b.opened (Restart n) b.step in
       let count = b.catches_up.taken in
       subst (λ ms. Shown (record k {
-        host = with_at k.host n (back_again ms n (k.stored n) slot object);
+        host = with_at k.host n (restarted_host ms n (k.stored n) slot object);
         stored = with_at k.stored n (booted (k.stored n));
         taken = with_at k.taken n (k.taken n + (1 + 2 * slot));
       }) w) show.members
@@ -502,9 +464,9 @@ module _ (laws : BallotLaws) {O Op Reply : Type 0} (filter : FilterLaws Op) (rul
       (other_at k.stored n (booted (k.stored n)))
       (let base = ap (λ (q : Stored Op). q.base) (own_at k.stored n (booted (k.stored n))) in omega (arith, base, low))))
 
-  pub hosts_show : (members : List ℕ) (k : Hosts Op O Reply) → AreHosts rules owner members k → total k ≤ most_events → (w : World Op Reply) × ShowHosts rules owner k w
+  pub hosts_show : (members : List ℕ) (k : Hosts Op O Reply) → AreHosts rules owner members k → total_events k ≤ most_events → (w : World Op Reply) × ShowHosts rules owner k w
   hosts_show members k at_first room = (opening members, new_shows members)
   hosts_show members k (later {j} k' before goes) room =
       let r = hosts_show members j before (earlier_room j k goes room) in
-      let v = goes_shows j k r.0 r.1 goes room in
+      let v = step_shows j k r.0 r.1 goes room in
       (v.0, v.1)

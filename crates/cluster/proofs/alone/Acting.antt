@@ -54,10 +54,13 @@ use Rattle.forgetting.proofs.Holding.{acted_is_held, outcome_is_held, history_re
 use Rattle.forgetting.proofs.Nodes.{left, rest_p2a, rest_receives, rest_fit}
 use Rattle.node.proofs.Keeping.{keeps_all, keeps_p1a, keeps_p2a}
 use Rattle.node.proofs.Shown.{fit_shown}
-use Rattle.cluster.specs.Hosts.{HostState, Envelope, ShowsHost, IsEnvelopeOf, AreEnvelopesOf, IsLegible, Stored, IsStored, stored_after, host_turn, with_holding, with_state}
-use Rattle.cluster.specs.Acting.{AsksForLastSubmitted, AsksForUnknown, HostActs, HostReceives}
-use Rattle.cluster.proofs.Envelopes.{envelopes_of, read_left}
-use Rattle.cluster.proofs.Slots.{none_at_zero, asks_for_last}
+use Rattle.cluster.specs.Hosts.{HostState, ShowsHost, host_turn, with_holding, with_state}
+use Rattle.cluster.specs.Envelopes.{Envelope, IsEnvelopeOf, AreEnvelopesOf, IsLegible}
+use Rattle.cluster.specs.Storing.{Stored, IsStored, stored_after}
+use Rattle.cluster.specs.Asking.{AsksForLastSubmitted, AsksForUnknown}
+use Rattle.cluster.specs.Acting.{HostActs, HostReceives}
+use Rattle.cluster.proofs.alone.Envelopes.{envelopes_of, read_left}
+use Rattle.cluster.proofs.alone.Slots.{none_at_zero, asks_for_last}
 
 -- slot_out never falls
 module _ {O Op Reply : Type 0} (rules : Rules O Op Reply) (members : List ℕ) (n : ℕ) (x : NodeState (Command Op)) where

@@ -16,8 +16,8 @@ use Rattle.object.specs.declared.command.Submission.{Submission}
 use Rattle.node.specs.declared.deed.Deed.{Deed}
 use Rattle.node.specs.declared.deed.Deed.TheVariants as deeds
 use Rattle.agreement.specs.Steps.{IsItsOwn}
-use Rattle.cluster.specs.Acting.{asked}
-use Rattle.cluster.specs.Together.{IsPartOf}
+use Rattle.cluster.specs.Asking.{asked}
+use Rattle.cluster.specs.Showing.{IsPartOf}
 
 any_end : {X : Type 0} (f : X → Bool) (xs ys : List X) → list_any f (xs ++ ys) ≡ list_any f xs || list_any f ys
 any_end f [] ys = refl
@@ -197,41 +197,3 @@ module _ {Op Reply : Type 0} (c : Command Op) (h : Happenings Op Reply) where
           (λ (k : In t h.submitted). inl k)
           (λ (k : In t (last ∷ [])). ⊎_elim (λ (e : t ≡ last). inr (ap (λ (z : Submission Op). z.command) e)) (λ none. absurd none) k)
           (In-cases t h.submitted (last ∷ []) j)
-
-  pub submitted_still : (d : Command Op) → WasSubmitted d h.submitted → WasSubmitted d (with_submission c h).submitted
-  submitted_still d was = (was.0, at (is_submitted c.key h.submitted), was.2)
-    where
-      at : (b : Bool) → In was.0 (cond b h (record h { submitted = h.submitted ++ (last ∷ []) })).submitted
-      at true = was.1
-      at false = In-left was.0 h.submitted (last ∷ []) was.1
-
-  key_step : (s : Submission Op) (ss : List (Submission Op)) (b : Bool) → same_key s.command.key c.key ≡ b → b || is_submitted c.key ss ≡ true
-      → (is_submitted c.key ss ≡ true → (t : Submission Op) × In t ss × (same_key t.command.key c.key ≡ true))
-      → (t : Submission Op) × In t (s ∷ ss) × (same_key t.command.key c.key ≡ true)
-  key_step s ss true same f more = (s, inl refl, same)
-  key_step s ss false same f more = let r = more f in (r.0, inr r.1, r.2)
-
-  key_found : (ss : List (Submission Op)) → is_submitted c.key ss ≡ true → (t : Submission Op) × In t ss × (same_key t.command.key c.key ≡ true)
-  key_found [] e = absurd (cc)
-  key_found (s ∷ ss) e = key_step s ss (same_key s.command.key c.key) refl e (key_found ss)
-
-  pub submitted_now : IsItsOwn c h.submitted → WasSubmitted c (with_submission c h).submitted
-  submitted_now own = at (is_submitted c.key h.submitted) refl
-    where
-      at : (b : Bool) → is_submitted c.key h.submitted ≡ b → WasSubmitted c (cond b h (record h { submitted = h.submitted ++ (last ∷ []) })).submitted
-      at true e = let r = key_found h.submitted e in (r.0, r.1, own r.0 r.1 r.2)
-      at false e = (last, In-right last h.submitted (last ∷ []) (inl refl), refl)
-
-pub once_one : {X : Type 0} (key_of : X → Key) (xs : List X) → KeysOnce key_of xs → (x y : X) → In x xs → In y xs → key_of x ≡ key_of y → x ≡ y
-once_one key_of [] once x y i j e = absurd i
-once_one key_of (z ∷ zs) once x y (inl p) (inl q) e = p ∙ sym q
-once_one key_of (z ∷ zs) once x y (inl p) (inr j) e = absurd (once.0 y j (sym e ∙ ap key_of p))
-once_one key_of (z ∷ zs) once x y (inr i) (inl q) e = absurd (once.0 x i (e ∙ ap key_of q))
-once_one key_of (z ∷ zs) once x y (inr i) (inr j) e = once_one key_of zs once.1 x y i j e
-
--- a command that was submitted is its key's own
-pub submitted_own : {Op : Type 0} (c : Command Op) (submitted : List (Submission Op)) → SubmittedOnce submitted → WasSubmitted c submitted → IsItsOwn c submitted
-submitted_own c submitted once was t i e =
-    ap (λ (s : Submission _). s.command) (once_one submitted_key submitted once t was.0 i was.1
-    (same_is t.command.key c.key e ∙ ap (λ (k : Command _). k.key) (sym was.2)))
-    ∙ was.2
