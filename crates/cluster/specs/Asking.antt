@@ -1,5 +1,5 @@
 -- Which commands a host may be asked for.
-use Rattle.std.specs.Prelude.{◌≡◌, ◌≤◌, ℕ, true, List}
+use Rattle.std.specs.Prelude.{◌≡◌, ◌≤◌, true, List}
 use Rattle.object.specs.Happenings.{Happenings, with_submission}
 use Rattle.object.specs.Lists.{In}
 use Rattle.object.specs.OnceOnly.{is_later}

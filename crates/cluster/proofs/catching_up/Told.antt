@@ -1,5 +1,5 @@
 -- Whoever learns a decision learns what all were told: commanders tell all, and an Ask is answered from what was learnt.
-use Rattle.std.proofs.Common.{◌≡◌, ◌≢◌, inl, inr, ⊎_elim, ℕ, Bool, true, false, cond, List, [], ◌∷◌, ◌++◌, map, filter}
+use Rattle.std.proofs.Common.{◌≡◌, ◌≢◌, ⊎_elim, ℕ, Bool, true, false, cond, List, [], ◌∷◌, ◌++◌, map, filter}
 use Rattle.std.proofs.Common.{Some, None, Option, refl, sym, ap, ◌∙◌, subst}
 use Rattle.std.specs.Prelude.{◌^◌, ◌==◌, not, nat_le, nat_lt, ◌&&◌, ◌+◌}
 use Rattle.std.specs.FinMap.{get, entries, insert}
@@ -37,7 +37,6 @@ use Rattle.agreement.proofs.chosen.Sets.{In-numbers}
 use Rattle.agreement.proofs.chosen.Turns.{here, there}
 use Rattle.forgetting.proofs.Gone.{map_In}
 use Rattle.cluster.specs.Snapshots.{IsToldToAll}
-
 
 module _ {C : Type 0} where
   -- what one member is sent of what goes to all, each is sent

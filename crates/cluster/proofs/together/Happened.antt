@@ -2,20 +2,17 @@
 use Rattle.std.proofs.Common.{◌≡◌, ◌≤◌, ◌⊎◌, inl, inr, ⊎_elim, ℕ, Bool, true, false, cond, ◌||◌, List, [], ◌∷◌, ◌++◌, length, length-append, take, refl, sym, ap, ◌∙◌, subst, arith}
 use Rattle.std.specs.List.{list_any}
 use Rattle.std.proofs.lemmas.List.{take-append-le, take_all}
-use Rattle.object.specs.Happenings.{Happenings, nothing, with_submission, with_answers, is_submitted, submitted_key, SubmittedOnce}
-use Rattle.object.specs.KeyLaws.{same_is}
-use Rattle.object.specs.Keys.{same_key, KeysOnce}
-use Rattle.object.specs.Legal.{IsLegal, StandsAt, WasSubmitted}
+use Rattle.object.specs.Happenings.{Happenings, nothing, with_submission, with_answers, is_submitted, submitted_key}
+use Rattle.object.specs.Keys.{same_key}
+use Rattle.object.specs.Legal.{IsLegal, StandsAt}
 use Rattle.object.specs.ListLaws.{In-left, In-right, In-cases}
 use Rattle.object.specs.Lists.{In}
 use Rattle.object.specs.Objects.{Rules}
 use Rattle.object.specs.declared.command.Answer.{Answer}
 use Rattle.object.specs.declared.command.Command.{Command}
-use Rattle.object.specs.declared.command.Key.{Key}
 use Rattle.object.specs.declared.command.Submission.{Submission}
 use Rattle.node.specs.declared.deed.Deed.{Deed}
 use Rattle.node.specs.declared.deed.Deed.TheVariants as deeds
-use Rattle.agreement.specs.Steps.{IsItsOwn}
 use Rattle.cluster.specs.Asking.{asked}
 use Rattle.cluster.specs.Showing.{IsPartOf}
 

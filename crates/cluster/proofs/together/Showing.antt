@@ -1,11 +1,10 @@
 -- Hosts together show one world, which goes on with each of them.
-use Rattle.std.proofs.Common.{◌≡◌, ◌≢◌, ◌⊎◌, inl, inr, ⊎_elim, ℕ, ◌+◌, ◌*◌, ◌-◌, ◌<◌, ◌≤◌, ◌==◌, Bool, true, false, cond, List, [], ◌∷◌, ◌++◌, length, refl, sym, ap, ◌∙◌, subst, arith}
+use Rattle.std.proofs.Common.{◌≡◌, ◌≢◌, ◌⊎◌, ⊎_elim, ℕ, ◌+◌, ◌*◌, ◌-◌, ◌<◌, ◌≤◌, true, cond, List, [], ◌∷◌, length, refl, sym, ap, ◌∙◌, subst, arith}
 use Rattle.std.proofs.lemmas.Bool.{cases_eq}
 use Rattle.object.specs.FilterLaws.{FilterLaws}
 use Rattle.object.specs.Happenings.{Happenings, with_answers, with_submission}
-use Rattle.object.specs.ListLaws.{In-cases, In-left, In-right}
+use Rattle.object.specs.ListLaws.{In-cases}
 use Rattle.object.specs.KeyLaws.{same_is}
-use Rattle.object.specs.Legal.{WasSubmitted}
 use Rattle.object.specs.Lists.{In}
 use Rattle.object.specs.Objects.{Rules, is_one}
 use Rattle.object.specs.OnceOnly.{Filtered}
@@ -34,7 +33,7 @@ use Rattle.agreement.specs.Worlds.{World, opening}
 use Rattle.agreement.specs.declared.event.Event.{Event}
 use Rattle.agreement.specs.declared.event.Event.TheVariants.{Deliver, Restart}
 use Rattle.agreement.proofs.order.OneOrder.{leads_later}
-use Rattle.agreement.proofs.every.Every.{goes_on, counts, submitted_once, opens as opens_world}
+use Rattle.agreement.proofs.every.Every.{goes_on, counts, opens as opens_world}
 use Rattle.cluster.specs.Asking.{AsksForUnknown, asked}
 use Rattle.cluster.specs.Acting.{HostActs}
 use Rattle.cluster.specs.CatchingUp.{CatchesUp, caught_up}
@@ -44,7 +43,7 @@ use Rattle.cluster.specs.Hosts.{HostState, ShowsHost, host_turn, with_holding, w
 use Rattle.cluster.specs.Envelopes.{Envelope, IsEnvelopeOf, AreEnvelopesOf}
 use Rattle.cluster.specs.Storing.{Stored, IsStored, new_stored, stored_after, booted, compacted}
 use Rattle.cluster.specs.Snapshots.{IsSnapshot}
-use Rattle.cluster.specs.Clusters.{Hosts, new_hosts, with_at, events_from, total_events, with_handed, labelled, host_turned, host_acted}
+use Rattle.cluster.specs.Clusters.{Hosts, new_hosts, with_at, events_from, total_events, labelled, host_turned, host_acted}
 use Rattle.cluster.specs.Steps.{ClusterStep, hands_in, asks, acts, relays, receives, forgets, compacts, hands_on, catches_up, comes_back, AreHosts, at_first, later, IsInternal}
 use Rattle.cluster.specs.Showing.{IsPartOf, IsHandedIn, ShowHosts}
 use Rattle.cluster.proofs.alone.Acting.{acts_unknown}
