@@ -21,7 +21,8 @@ use Rattle.cluster.specs.Storing.{Stored, IsStored, stored_after}
 
 -- The world's event is the host's deed: it makes a world that the host shows then, to which what it sends belongs, and
 -- which has the answers that it gave.
-pub record HostActs {O Op Reply : Type 0} (rules : Rules O Op Reply) (s : HostState Op O) (n : ℕ) (d : Deed Op) (w : World Op Reply) : Type 0 where
+pub record HostActs {O Op Reply : Type 0} (rules : Rules O Op Reply) (s : HostState Op O) (n : ℕ)
+    (d : Deed Op) (w : World Op Reply) : Type 0 where
   pub world : World Op Reply
   pub step : Step rules w (event_of n d) world
   pub shows : ShowsHost rules (with_holding s (host_turn rules s d).state) n world.cluster
@@ -33,12 +34,15 @@ pub record HostActs {O Op Reply : Type 0} (rules : Rules O Op Reply) (s : HostSt
 -- The world's event is the delivery of the letter of which the host received what was left: it makes a world that the
 -- host shows then, to which what it sends belongs, and in which nothing else happened.
 pub record HostReceives {O Op Reply : Type 0} (rules : Rules O Op Reply) (s : HostState Op O) (n : ℕ)
-    (left : LetterBody (Command Op)) (new : NodeState (Command Op)) (sent : List (Letter (Command Op))) (w : World Op Reply) : Type 0 where
+    (left : LetterBody (Command Op)) (new : NodeState (Command Op)) (sent : List (Letter (Command Op)))
+    (w : World Op Reply) : Type 0 where
   pub place : ℕ
   pub world : World Op Reply
   pub to : (l : Letter (Command Op)) → slice_get w.cluster.letters place ≡ Some l → l.to ≡ n
   pub step : Step rules w (Deliver place) world
   pub shows : ShowsHost rules (with_state s new) n world.cluster
   pub envelopes : AreEnvelopesOf s.base sent world.cluster
-  pub stored : (d : Stored Op) → d.base ≤ s.base → IsStored d n w.cluster → IsStored (stored_after d left) n world.cluster
+  pub stored :
+      (d : Stored Op) → d.base ≤ s.base
+      → IsStored d n w.cluster → IsStored (stored_after d left) n world.cluster
   pub happenings : world.happenings ≡ w.happenings

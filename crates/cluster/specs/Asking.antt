@@ -13,7 +13,9 @@ use Rattle.cluster.specs.Hosts.{HostState}
 -- its key comes with it alone, and none of its session that was submitted has a greater number
 pub record IsLastSubmitted {Op : Type 0} (c : Command Op) (submitted : List (Submission Op)) : Type 0 where
   pub own : IsItsOwn c submitted
-  pub last : (s : Submission Op) → In s submitted → s.command.key.session ≡ c.key.session → s.command.key.number ≤ c.key.number
+  pub last :
+      (s : Submission Op) → In s submitted
+      → s.command.key.session ≡ c.key.session → s.command.key.number ≤ c.key.number
 
 -- a command that is asked for is the last of its session, and the deed is no restart
 abbrev pub AsksForLastSubmitted : {Op : Type 0} → Deed Op → List (Submission Op) → Type 0

@@ -67,7 +67,8 @@ HasProposedInVain {Op} slot object book =
 -- Events lead to a world that the host shows then: node n is told decisions and performs them, twice as many events as
 -- slots, and nothing else happens. No answer is new, what other nodes have and have stored is as it was, and so is the
 -- order.
-pub record CatchesUp {O Op Reply : Type 0} (rules : Rules O Op Reply) (s : HostState Op O) (n : ℕ) (w : World Op Reply) : Type 0 where
+pub record CatchesUp {O Op Reply : Type 0} (rules : Rules O Op Reply) (s : HostState Op O) (n : ℕ)
+    (w : World Op Reply) : Type 0 where
   pub world : World Op Reply
   pub events : List (Event Op)
   pub leads : Leads rules w events world

@@ -60,7 +60,8 @@ abbrev pub labelled : {C : Type 0} → ℕ → List (Letter C) → List (Envelop
 labelled base letters = map (λ l. record { label = base; letter = l }) letters
 
 -- by one event at node n the host becomes this, and sends letters
-abbrev pub host_turned : {Op O Reply : Type 0} → Hosts Op O Reply → ℕ → HostState Op O → List (Letter (Command Op)) → Happenings Op Reply → Hosts Op O Reply
+abbrev pub host_turned : {Op O Reply : Type 0} → Hosts Op O Reply → ℕ → HostState Op O → List (Letter (Command Op))
+    → Happenings Op Reply → Hosts Op O Reply
 host_turned k n s sent h = record k {
   host = with_at k.host n s;
   envelopes = k.envelopes ++ labelled s.base sent;

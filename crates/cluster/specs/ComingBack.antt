@@ -28,7 +28,8 @@ restarted_host members n d slot object = record {
 }
 
 -- the node restarts, its next boot is stored, and it catches up with the snapshot
-pub record ComesBack {O Op Reply : Type 0} (rules : Rules O Op Reply) (n : ℕ) (d : Stored Op) (slot : ℕ) (object : Filtered O) (w : World Op Reply) : Type 0 where
+pub record ComesBack {O Op Reply : Type 0} (rules : Rules O Op Reply) (n : ℕ) (d : Stored Op) (slot : ℕ)
+    (object : Filtered O) (w : World Op Reply) : Type 0 where
   pub opened : World Op Reply
   pub step : Step rules w (Restart n) opened
   pub happenings : opened.happenings ≡ w.happenings

@@ -1,5 +1,5 @@
--- Envelopes: letters on their way between hosts, each labelled with its sender's base (Paxos Made Moderately Complex, 4.2:
--- a P1b says below which slot its acceptor has forgotten).
+-- Envelopes: letters on their way between hosts, each labelled with its sender's base (Paxos Made Moderately Complex,
+-- 4.2: a P1b says below which slot its acceptor has forgotten).
 use Rattle.std.specs.Prelude.{◌≡◌, ◌≤◌, ℕ, ⊤, List, Some}
 use Rattle.object.specs.Lists.{In}
 use Rattle.ballot.specs.Rests.{rest_of_body}

@@ -25,7 +25,8 @@ new_host rules members n = record {
 
 -- It shows the rest of node n, and its object has obeyed all that this node performed; what is below the base was
 -- performed.
-pub record ShowsHost {O Op Reply : Type 0} (rules : Rules O Op Reply) (s : HostState Op O) (n : ℕ) (k : Cluster (Command Op)) : Type 0 where
+pub record ShowsHost {O Op Reply : Type 0} (rules : Rules O Op Reply) (s : HostState Op O) (n : ℕ)
+    (k : Cluster (Command Op)) : Type 0 where
   pub member : is_member k.members n ≡ true
   pub held : ShowsHeld rules s.base s.holding (node k n)
   pub past : s.base ≤ (node k n).replica.slot_out

@@ -17,8 +17,8 @@ use Rattle.cluster.specs.Hosts.{ShowsHost}
 use Rattle.cluster.specs.Snapshots.{IsSnapshot}
 use Rattle.cluster.specs.Storing.{IsStored}
 
--- The same was submitted; each answer of the one is one of the other, and was given there before a submission if it was so
--- here.
+-- The same was submitted in both; each answer of the first is one of the second, and was given before a submission
+-- there if it was so here.
 pub record IsPartOf {Op Reply : Type 0} (h g : Happenings Op Reply) : Type 0 where
   pub keys : (key : Key) → is_submitted key h.submitted ≡ is_submitted key g.submitted
   pub submitted :
@@ -37,7 +37,8 @@ pub record IsHandedIn {Op : Type 0} (owner : ℕ → ℕ) (handed : ℕ → List
 
 -- All show the one world, where only what was handed in at its session's owner is submitted, and where all that clients
 -- saw happened.
-pub record ShowHosts {O Op Reply : Type 0} (rules : Rules O Op Reply) (owner : ℕ → ℕ) (k : Hosts Op O Reply) (w : World Op Reply) : Type 0 where
+pub record ShowHosts {O Op Reply : Type 0} (rules : Rules O Op Reply) (owner : ℕ → ℕ)
+    (k : Hosts Op O Reply) (w : World Op Reply) : Type 0 where
   pub is : IsWorld rules w
   pub members : w.cluster.members ≡ k.members
   pub hosts : (n : ℕ) → is_member k.members n ≡ true → ShowsHost rules (k.host n) n w.cluster
@@ -46,6 +47,7 @@ pub record ShowHosts {O Op Reply : Type 0} (rules : Rules O Op Reply) (owner : �
   pub stored : (n : ℕ) → is_member k.members n ≡ true → IsStored (k.stored n) n w.cluster
   pub low : (n : ℕ) → (k.stored n).base ≤ (k.host n).base
   pub handed : IsHandedIn owner k.handed
-  pub submitted : (s : Submission Op) → In s w.happenings.submitted → In s.command (k.handed (owner s.command.key.session))
+  pub submitted :
+      (s : Submission Op) → In s w.happenings.submitted → In s.command (k.handed (owner s.command.key.session))
   pub happenings : IsPartOf k.happenings w.happenings
   pub taken : w.taken ≤ total_events k

@@ -29,10 +29,11 @@ IsInternal deeds.Propose = Unit {0}
 IsInternal deeds.Perform = Unit {0}
 IsInternal deeds.Restart = ⊥
 
--- One step. A session's commands are handed in at the host that owns it, where a key has one command; this is taken down
--- there, and is no event. Any host may be asked for what was handed in at one, again and late, where its filter lets it
+-- One step. A session's commands are handed in at the host that owns it, where a key has one command; they are taken
+-- down there, which is no event. Any host may be asked for one of them, again and late, where its filter lets it
 -- through: the first time it is submitted. A host may tell an answer that was given elsewhere.
-pub data ClusterStep {O Op Reply : Type 0} (rules : Rules O Op Reply) (owner : ℕ → ℕ) (k : Hosts Op O Reply) : Hosts Op O Reply → Type 0 where
+pub data ClusterStep {O Op Reply : Type 0} (rules : Rules O Op Reply) (owner : ℕ → ℕ)
+    (k : Hosts Op O Reply) : Hosts Op O Reply → Type 0 where
   hands_in :
       (n : ℕ) (c : Command Op)
       → owner c.key.session ≡ n
@@ -54,7 +55,8 @@ pub data ClusterStep {O Op Reply : Type 0} (rules : Rules O Op Reply) (owner : �
       → In a k.happenings.answers
       → ClusterStep rules owner k (record k { happenings = with_answers (a ∷ []) k.happenings })
   receives :
-      (n : ℕ) (p : Envelope (Command Op)) (left : LetterBody (Command Op)) (new : NodeState (Command Op)) (sent : List (Letter (Command Op)))
+      (n : ℕ) (p : Envelope (Command Op)) (left : LetterBody (Command Op)) (new : NodeState (Command Op))
+      (sent : List (Letter (Command Op)))
       → is_member k.members n ≡ true
       → In p k.envelopes
       → IsReadAs p n (k.host n).base left
@@ -102,6 +104,11 @@ pub data ClusterStep {O Op Reply : Type 0} (rules : Rules O Op Reply) (owner : �
       })
 
 -- what can come of new hosts of these members
-pub data AreHosts {O Op Reply : Type 0} (rules : Rules O Op Reply) (owner : ℕ → ℕ) (members : List ℕ) : Hosts Op O Reply → Type 0 where
+pub data AreHosts {O Op Reply : Type 0} (rules : Rules O Op Reply) (owner : ℕ → ℕ)
+    (members : List ℕ) : Hosts Op O Reply → Type 0 where
   at_first : AreHosts rules owner members (new_hosts rules members)
-  later : {j : Hosts Op O Reply} (k : Hosts Op O Reply) → AreHosts rules owner members j → ClusterStep rules owner j k → AreHosts rules owner members k
+  later :
+      {j : Hosts Op O Reply} (k : Hosts Op O Reply)
+      → AreHosts rules owner members j
+      → ClusterStep rules owner j k
+      → AreHosts rules owner members k
