@@ -31,7 +31,8 @@ module _ {O Op Reply : Type 0} (rules : Rules O Op Reply) where
     pub sent : (l : Letter (Command Op)) → In l k.letters → In l z.letters
     pub same : z.members ≡ k.members
 
-  turned_leaves : (m n : ℕ) (k : Cluster (Command Op)) (x : NodeState (Command Op)) (out : List (Letter (Command Op))) → m ≢ n → Leaves m k (turned k n x out)
+  turned_leaves : (m n : ℕ) (k : Cluster (Command Op)) (x : NodeState (Command Op)) (out : List (Letter (Command Op)))
+      → m ≢ n → Leaves m k (turned k n x out)
   turned_leaves m n k x out apart = record { members = refl; node = node_put_other k.members k.nodes n x m apart }
 
   performed_leaves : (m n : ℕ) (w : World Op Reply) (o : Option (Command Op)) → m ≢ n
@@ -39,7 +40,8 @@ module _ {O Op Reply : Type 0} (rules : Rules O Op Reply) where
   performed_leaves m n w None apart = record { members = refl; node = refl }
   performed_leaves m n w (Some c) apart = turned_leaves m n w.cluster _ [] apart
 
-  pub step_leaves : (m : ℕ) (w v : World Op Reply) (e : Event Op) → Step rules w e v → IsElsewhere m w e → Leaves m w.cluster v.cluster
+  pub step_leaves : (m : ℕ) (w v : World Op Reply) (e : Event Op) → Step rules w e v → IsElsewhere m w e
+      → Leaves m w.cluster v.cluster
   step_leaves m w v e (submit n c member own) apart = turned_leaves m n w.cluster _ [] apart
   step_leaves m w v e (deliver j l x out at receives) apart = turned_leaves m l.to w.cluster x out (apart l at)
   step_leaves m w v e (wake n member) apart = turned_leaves m n w.cluster _ _ apart
@@ -48,10 +50,12 @@ module _ {O Op Reply : Type 0} (rules : Rules O Op Reply) where
   step_leaves m w v e (perform n member) apart = performed_leaves m n w (next_decided (node w.cluster n).replica) apart
   step_leaves m w v e (restart n member) apart = turned_leaves m n w.cluster _ [] apart
 
-  turned_adds : (n : ℕ) (k : Cluster (Command Op)) (x : NodeState (Command Op)) (out : List (Letter (Command Op))) → Adds k (turned k n x out)
+  turned_adds : (n : ℕ) (k : Cluster (Command Op)) (x : NodeState (Command Op)) (out : List (Letter (Command Op)))
+      → Adds k (turned k n x out)
   turned_adds n k x out = record { sent = λ l i. In-left l k.letters out i; same = refl }
 
-  performed_adds : (n : ℕ) (w : World Op Reply) (o : Option (Command Op)) → Adds w.cluster (after_performing rules w n (node w.cluster n).replica o).cluster
+  performed_adds : (n : ℕ) (w : World Op Reply) (o : Option (Command Op))
+      → Adds w.cluster (after_performing rules w n (node w.cluster n).replica o).cluster
   performed_adds n w None = record { sent = λ l i. i; same = refl }
   performed_adds n w (Some c) = turned_adds n w.cluster _ []
 
@@ -64,18 +68,28 @@ module _ {O Op Reply : Type 0} (rules : Rules O Op Reply) where
   step_adds w v e (perform n member) = performed_adds n w (next_decided (node w.cluster n).replica)
   step_adds w v e (restart n member) = turned_adds n w.cluster _ []
 
-  pub leaves_host : (s : HostState Op O) (m : ℕ) (k z : Cluster (Command Op)) → Leaves m k z → ShowsHost rules s m k → ShowsHost rules s m z
+  pub leaves_host : (s : HostState Op O) (m : ℕ) (k z : Cluster (Command Op)) → Leaves m k z → ShowsHost rules s m k
+      → ShowsHost rules s m z
   leaves_host s m k z leaves shows = record {
     member = subst (λ ms. is_member ms m ≡ true) (sym leaves.members) shows.member;
     held = subst (λ x. ShowsHeld rules s.base s.holding x) (sym leaves.node) shows.held;
     past = subst (λ (x : NodeState (Command Op)). s.base ≤ x.replica.slot_out) (sym leaves.node) shows.past;
   }
 
-  pub leaves_stored : (d : Stored Op) (m : ℕ) (k z : Cluster (Command Op)) → Leaves m k z → IsStored d m k → IsStored d m z
+  pub leaves_stored : (d : Stored Op) (m : ℕ) (k z : Cluster (Command Op)) → Leaves m k z → IsStored d m k
+      → IsStored d m z
   leaves_stored d m k z leaves is = record {
-    acceptor = subst (λ (x : NodeState (Command Op)). Keeps (rest_of_acceptor d.base x.acceptor) d.acceptor) (sym leaves.node) is.acceptor;
+    acceptor = subst (λ (x : NodeState (Command Op)). Keeps (rest_of_acceptor d.base x.acceptor) d.acceptor)
+        (sym leaves.node) is.acceptor;
     boot = is.boot ∙ ap (λ (x : NodeState (Command Op)). x.boot) (sym leaves.node);
   }
 
-  pub adds_envelope : (p : Envelope (Command Op)) (k z : Cluster (Command Op)) → Adds k z → IsEnvelopeOf p k → IsEnvelopeOf p z
-  adds_envelope p k z adds is = record { whole = is.whole; sent = adds.sent is.whole is.sent; sender = is.sender; receiver = is.receiver; left = is.left }
+  pub adds_envelope : (p : Envelope (Command Op)) (k z : Cluster (Command Op)) → Adds k z → IsEnvelopeOf p k
+      → IsEnvelopeOf p z
+  adds_envelope p k z adds is = record {
+    whole = is.whole;
+    sent = adds.sent is.whole is.sent;
+    sender = is.sender;
+    receiver = is.receiver;
+    left = is.left;
+  }

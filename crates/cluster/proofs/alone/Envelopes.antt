@@ -19,7 +19,8 @@ module _ {C : Type 0} (base : ℕ) where
     pub receiver : l.to ≡ m.to
     pub body : rest_of_body base m.body ≡ Some l.body
 
-  of_letter : (m l : Letter C) (o : Option (LetterBody C)) → rest_of_body base m.body ≡ o → option_map (λ b. record m { body = b }) o ≡ Some l → IsRestOf l m
+  of_letter : (m l : Letter C) (o : Option (LetterBody C)) → rest_of_body base m.body ≡ o
+      → option_map (λ b. record m { body = b }) o ≡ Some l → IsRestOf l m
   of_letter m l None e f = absurd (cc)
   of_letter m l (Some b) e f =
       let same : record m { body = b } ≡ l = cc in
@@ -29,7 +30,12 @@ module _ {C : Type 0} (base : ℕ) where
       → In l (cons_option o (rests base ms)) → (In l (rests base ms) → (q : Letter C) × In q ms × IsRestOf l q)
       → (q : Letter C) × In q (m ∷ ms) × IsRestOf l q
   rests_step l m ms None e i more = let r = more i in (r.0, inr r.1, r.2)
-  rests_step l m ms (Some k) e (inl same) more = (m, inl refl, of_letter m l (rest_of_body base m.body) refl (e ∙ ap (λ q. Some q) (sym same)))
+  rests_step l m ms (Some k) e (inl same) more = (
+    m,
+    inl refl,
+    of_letter m l (rest_of_body base m.body) refl
+        (e ∙ ap (λ q. Some q) (sym same)),
+  )
   rests_step l m ms (Some k) e (inr i) more = let r = more i in (r.0, inr r.1, r.2)
 
   pub rests_In : (l : Letter C) (ms : List (Letter C)) → In l (rests base ms) → (m : Letter C) × In m ms × IsRestOf l m
@@ -37,7 +43,8 @@ module _ {C : Type 0} (base : ℕ) where
   rests_In l (m ∷ ms) i = rests_step l m ms (rest_of_letter base m) refl i (rests_In l ms)
 
   -- what is left of letters that were sent is envelopes
-  pub envelopes_of : (sent out : List (Letter C)) (k : Cluster C) → sent ≡ rests base out → ((l : Letter C) → In l out → In l k.letters) → AreEnvelopesOf base sent k
+  pub envelopes_of : (sent out : List (Letter C)) (k : Cluster C) → sent ≡ rests base out
+      → ((l : Letter C) → In l out → In l k.letters) → AreEnvelopesOf base sent k
   envelopes_of sent out k told all l i =
       let r = rests_In l out (subst (In l) told i) in
       record { whole = r.0; sent = all r.0 r.1; sender = r.2.sender; receiver = r.2.receiver; left = r.2.body }

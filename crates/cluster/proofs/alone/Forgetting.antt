@@ -15,7 +15,8 @@ use Rattle.forgetting.proofs.Bases.{node_twice, pvalues_twice, rest_keeps}
 use Rattle.cluster.specs.Hosts.{HostState, ShowsHost, forgotten_host}
 use Rattle.cluster.specs.Storing.{Stored, IsStored, compacted}
 
-pub node_forgets : {C : Type 0} (low high : ℕ) → low ≤ high → (kept x : NodeState C) → ShowsNode kept (rest_of_node low x)
+pub node_forgets : {C : Type 0} (low high : ℕ) → low ≤ high → (kept x : NodeState C)
+    → ShowsNode kept (rest_of_node low x)
     → ShowsNode (rest_of_node high kept) (rest_of_node high x)
 node_forgets low high h kept x s = subst (ShowsNode (rest_of_node high kept)) (node_twice low high h x) (record {
   acceptor = rest_keeps high (rest_of_acceptor low x.acceptor) kept.acceptor s.acceptor;
@@ -24,19 +25,26 @@ node_forgets low high h kept x s = subst (ShowsNode (rest_of_node high kept)) (n
   replica = ap (rest_of_book high) s.replica;
 })
 
-pub host_forgets : {O Op Reply : Type 0} (rules : Rules O Op Reply) (s : HostState Op O) (n base : ℕ) (k : Cluster (Command Op))
-    → ShowsHost rules s n k → s.base ≤ base → base ≤ s.holding.state.replica.slot_out → ShowsHost rules (forgotten_host base s) n k
+pub host_forgets : {O Op Reply : Type 0} (rules : Rules O Op Reply) (s : HostState Op O) (n base : ℕ)
+    (k : Cluster (Command Op))
+    → ShowsHost rules s n k → s.base ≤ base → base ≤ s.holding.state.replica.slot_out
+    → ShowsHost rules (forgotten_host base s) n k
 host_forgets rules s n base k shows more out = record {
   member = shows.member;
-  held = record { state = node_forgets s.base base more s.holding.state _ shows.held.state; object = shows.held.object };
+  held = record {
+    state = node_forgets s.base base more s.holding.state _ shows.held.state;
+    object = shows.held.object;
+  };
   past = subst (λ (b : SlotBook (Command _)). base ≤ b.slot_out) shows.held.state.replica out;
 }
 
 -- less is stored, from a higher base on
-pub stored_compacts : {Op : Type 0} (d : Stored Op) (n base : ℕ) (k : Cluster (Command Op)) → IsStored d n k → d.base ≤ base → IsStored (compacted base d) n k
+pub stored_compacts : {Op : Type 0} (d : Stored Op) (n base : ℕ) (k : Cluster (Command Op)) → IsStored d n k
+    → d.base ≤ base → IsStored (compacted base d) n k
 stored_compacts d n base k is more = record {
   acceptor = subst (λ (a : Acceptances (Command _)). Keeps a (rest_of_acceptor base d.acceptor))
-      (ap (λ ps. record (node k n).acceptor { accepted = ps }) (pvalues_twice d.base base more (node k n).acceptor.accepted))
+      (ap (λ ps. record (node k n).acceptor { accepted = ps })
+      (pvalues_twice d.base base more (node k n).acceptor.accepted))
       (rest_keeps base (rest_of_acceptor d.base (node k n).acceptor) d.acceptor is.acceptor);
   boot = is.boot;
 }

@@ -12,14 +12,18 @@ use Rattle.agreement.specs.Nodes.{new_cluster}
 use Rattle.forgetting.specs.Holding.{ShowsHeld}
 use Rattle.cluster.specs.Hosts.{ShowsHost, new_host}
 
-rest_new : {C : Type 0} (members : List ℕ) (n : ℕ) → ShowsNode {C = C} (new_node members n) (rest_of_node 0 (new_node members n))
+rest_new : {C : Type 0} (members : List ℕ) (n : ℕ)
+    → ShowsNode {C = C} (new_node members n) (rest_of_node 0 (new_node members n))
 rest_new {C} members n =
     let commands = above_empty {X = C} 0 in
     let commanders = above_empty {X = Commanding C} 0 in
     record {
       acceptor = record { promised = refl; accepted = record { part = λ p i. i; greatest = λ p i. absurd i } };
       boot = refl;
-      leader = λ i. record (new_node {C = C} members n).leader { proposals = sym commands i; commanders = sym commanders i };
+      leader = λ i. record (new_node {C = C} members n).leader {
+        proposals = sym commands i;
+        commanders = sym commanders i;
+      };
       replica = λ i. record (new_node {C = C} members n).replica { decisions = sym commands i };
     }
 

@@ -53,21 +53,27 @@ module _ (laws : BallotLaws) {O Op Reply : Type 0} (rules : Rules O Op Reply) wh
         nodes = λ n. subst (MentionsNode Above) (sym (opened_at members n)) (new_of Above members n);
         letters = tt;
       })
-      (λ w v e i s f. mentions_step laws rules Above w v e (reachable_sound laws rules w i.reachable) s (proposes_above w i e) f)
+      (λ w v e i s f. mentions_step laws rules Above w v e (reachable_sound laws rules w i.reachable) s
+      (proposes_above w i e) f)
 
-  pub none_at_zero : (w : World Op Reply) → IsWorld rules w → (n : ℕ) → get (node w.cluster n).replica.decisions 0 ≡ None
+  pub none_at_zero : (w : World Op Reply) → IsWorld rules w → (n : ℕ)
+      → get (node w.cluster n).replica.decisions 0 ≡ None
   none_at_zero w i n = nowhere (get (node w.cluster n).replica.decisions 0)
       (λ c e. let h = ((slots_above w i).nodes n).replica.decisions 0 c e in absurd (omega arith))
 
   module _ (w : World Op Reply) (i : IsWorld rules w) (n : ℕ) where
     was_submitted : (d : Command Op) → In d (history (node w.cluster n).replica) → WasSubmitted d w.happenings.submitted
     was_submitted d j =
-        let r = flat_In (λ s. option_to_list (get (node w.cluster n).replica.decisions s)) d 1 ((node w.cluster n).replica.slot_out - 1) j in
-        knows_chosen laws rules w i r.0 d (is_decided laws rules w i n r.0 d (option_In (get (node w.cluster n).replica.decisions r.0) d r.3))
+        let r = flat_In (λ s. option_to_list (get (node w.cluster n).replica.decisions s)) d 1
+        ((node w.cluster n).replica.slot_out - 1) j in
+        knows_chosen laws rules w i r.0 d (is_decided laws rules w i n r.0 d
+        (option_In (get (node w.cluster n).replica.decisions r.0) d r.3))
 
-    last_of_session : (c : Command Op) → IsLastSubmitted c w.happenings.submitted → IsLastOfSession c (history (node w.cluster n).replica)
+    last_of_session : (c : Command Op) → IsLastSubmitted c w.happenings.submitted
+        → IsLastOfSession c (history (node w.cluster n).replica)
     last_of_session c is = record {
-      own = λ d j e. let t = was_submitted d j in sym t.2 ∙ is.own t.0 t.1 (same_when t.0.command.key c.key (ap (λ (k : Command Op). k.key) t.2 ∙ e));
+      own = λ d j e. let t = was_submitted d j in sym t.2 ∙ is.own t.0 t.1
+          (same_when t.0.command.key c.key (ap (λ (k : Command Op). k.key) t.2 ∙ e));
       last = λ d j e. let t = was_submitted d j in subst (λ (k : Command Op). k.key.number ≤ c.key.number) t.2
           (is.last t.0 t.1 (ap (λ (k : Command Op). k.key.session) t.2 ∙ e));
     }

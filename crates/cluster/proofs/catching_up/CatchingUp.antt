@@ -3,7 +3,8 @@ use Rattle.agreement.proofs.books.SlotBooksEvery.{books}
 use Rattle.forgetting.proofs.Gone.{flat_two}
 use Rattle.std.specs.Option.{option_to_list}
 use Rattle.std.specs.List.{range_with_len}
-use Rattle.std.proofs.Common.{inl, inr, true≢false, append_assoc, ◌-◌, ◌≡◌, ◌≢◌, ℕ, ◌+◌, ◌*◌, ◌<◌, ◌≤◌, Bool, true, false, cond, List, [], ◌∷◌, ◌++◌, length}
+use Rattle.std.proofs.Common.{inl, inr, true≢false, append_assoc, ◌-◌, ◌≡◌, ◌≢◌, ℕ, ◌+◌, ◌*◌, ◌<◌, ◌≤◌, Bool, true}
+use Rattle.std.proofs.Common.{false, cond, List, [], ◌∷◌, ◌++◌, length}
 use Rattle.std.proofs.Common.{Some, None, Option, refl, sym, ap, ◌∙◌, subst, append-nil, arith}
 use Rattle.std.specs.Prelude.{slice_get, nat_le, flat_map}
 use Rattle.std.specs.FinMap.{get, insert, remove, get-insert, get-remove}
@@ -55,10 +56,12 @@ module _ {X : Type 0} where
       apart q e = grind (arith, nat_tests)
 
       by_tests : (q : ℕ) (same high : Bool) → eq_by_cmp nat_cmp q s ≡ same → nat_le base q ≡ high
-          → cond (nat_le base q) (cond (eq_by_cmp nat_cmp q s) (Some v) (get m q)) None ≡ cond (nat_le base q) (get m q) None
+          → cond (nat_le base q) (cond (eq_by_cmp nat_cmp q s) (Some v) (get m q)) None ≡ cond (nat_le base q)
+          (get m q) None
       by_tests q true high e f =
           let low_q = apart q (same_key s q e) in
-          ap (λ b. cond b (cond (eq_by_cmp nat_cmp q s) (Some v) (get m q)) None) low_q ∙ sym (ap (λ b. cond b (get m q) None) low_q)
+          ap (λ b. cond b (cond (eq_by_cmp nat_cmp q s) (Some v) (get m q)) None) low_q
+          ∙ sym (ap (λ b. cond b (get m q) None) low_q)
       by_tests q false high e f = ap (λ b. cond (nat_le base q) (cond b (Some v) (get m q)) None) e
 
   remove_kept : (m : Slots X) (s : ℕ) → remove (kept_from s m) s ≡ kept_from (s + 1) m
@@ -77,7 +80,8 @@ module _ {X : Type 0} where
       also_low : (q : ℕ) → nat_le (s + 1) q ≡ true → nat_le s q ≡ true
       also_low q g = grind (arith, nat_tests)
 
-      by_tests : (q : ℕ) (same low high : Bool) → eq_by_cmp nat_cmp q s ≡ same → nat_le s q ≡ low → nat_le (s + 1) q ≡ high
+      by_tests : (q : ℕ) (same low high : Bool) → eq_by_cmp nat_cmp q s ≡ same → nat_le s q ≡ low
+          → nat_le (s + 1) q ≡ high
           → cond same None (cond low (get m q) None) ≡ cond high (get m q) None
       by_tests q true low true e f g = absurd (true≢false (sym g ∙ not_above q (same_key s q e)))
       by_tests q true low false e f g = refl
@@ -135,9 +139,11 @@ module _ (laws : BallotLaws) {O Op Reply : Type 0} (rules : Rules O Op Reply) (n
   at_first : IsWorld rules w → x₀ ≡ at_slot x₀.replica.slot_out x₀.replica.decisions
   at_first i =
       let nothing : x₀.replica.slot_out - x₀.replica.slot_out ≡ 0 = omega arith in
-      let requests = sym (ap (λ l. x₀.replica.requests ++ flat_map (λ s. option_to_list (get x₀.replica.proposals s)) (range_with_len x₀.replica.slot_out l)) nothing
+      let requests = sym (ap (λ l. x₀.replica.requests ++ flat_map (λ s. option_to_list (get x₀.replica.proposals s))
+      (range_with_len x₀.replica.slot_out l)) nothing
       ∙ append-nil x₀.replica.requests) in
-      let proposals = all_kept x₀.replica.slot_out x₀.replica.proposals (λ s c e. ((books laws rules w i n).near s c e).low) in
+      let proposals = all_kept x₀.replica.slot_out x₀.replica.proposals
+      (λ s c e. ((books laws rules w i n).near s c e).low) in
       λ j. record x₀ { replica = record x₀.replica { requests = requests j; proposals = sym proposals j } }
 
   pub has_come : IsWorld rules w → HasCome x₀.replica.slot_out w
@@ -158,8 +164,10 @@ module _ (laws : BallotLaws) {O Op Reply : Type 0} (rules : Rules O Op Reply) (n
     taken = refl;
   }
 
-  module _ (member : is_member w.cluster.members n ≡ true) (slot : ℕ) (v : World Op Reply) (come : HasCome slot v) (c : Command Op)
-      (told : IsToldToAll w.cluster slot c) (other : (p : Command Op) → get x₀.replica.proposals slot ≡ Some p → is_one rules p c ≡ false) (low : slot ≤ w.reach)
+  module _ (member : is_member w.cluster.members n ≡ true) (slot : ℕ) (v : World Op Reply) (come : HasCome slot v)
+      (c : Command Op)
+      (told : IsToldToAll w.cluster slot c) (other : (p : Command Op) → get x₀.replica.proposals slot ≡ Some p
+      → is_one rules p c ≡ false) (low : slot ≤ w.reach)
       (room : v.taken + 2 ≤ most_events) where
     abbrev d : Slots (Command Op)
     d = insert come.decisions slot c
@@ -216,13 +224,15 @@ module _ (laws : BallotLaws) {O Op Reply : Type 0} (rules : Rules O Op Reply) (n
     performs : Step rules u (Perform n) z
     performs =
         subst (λ o. Step rules u (Perform n) (counted (after_performing rules u n x₁.replica o))) decided
-        (subst (λ (y : NodeState (Command Op)). Step rules u (Perform n) (counted (after_performing rules u n y.replica (next_decided y.replica)))) u_here
+        (subst (λ (y : NodeState (Command Op)). Step rules u (Perform n)
+        (counted (after_performing rules u n y.replica (next_decided y.replica)))) u_here
         (perform n there))
 
     z_world : IsWorld rules z
     z_world = goes_on laws rules u z (Perform n) u_world performs (omega (arith, room))
 
-    lost_is : (o : Option (Command Op)) → ((p : Command Op) → o ≡ Some p → is_one rules p c ≡ false) → lost (is_one rules) o (Some c) ≡ option_to_list o
+    lost_is : (o : Option (Command Op)) → ((p : Command Op) → o ≡ Some p → is_one rules p c ≡ false)
+        → lost (is_one rules) o (Some c) ≡ option_to_list o
     lost_is None h = refl
     lost_is (Some p) h = ap (λ b. cond b [] (p ∷ [])) (h p refl)
 
@@ -237,16 +247,20 @@ module _ (laws : BallotLaws) {O Op Reply : Type 0} (rules : Rules O Op Reply) (n
         let last : out + (slot - out) ≡ slot = omega (arith, low_slot) in
         sym (ap (λ l. flat_map proposed_at (range_with_len out l)) count
         ∙ flat_two proposed_at out (slot - out) 1
-        ∙ ap (λ xs. flat_map proposed_at (range_with_len out (slot - out)) ++ xs) (append-nil (proposed_at (out + (slot - out))))
+        ∙ ap (λ xs. flat_map proposed_at (range_with_len out (slot - out)) ++ xs)
+        (append-nil (proposed_at (out + (slot - out))))
         ∙ ap (λ s. flat_map proposed_at (range_with_len out (slot - out)) ++ proposed_at s) last)
 
     requests_then : (x₀.replica.requests ++ proposed_upto slot x₀.replica)
         ++ lost (is_one rules) (get (kept_from slot x₀.replica.proposals) slot) (next_decided x₁.replica)
         ≡ x₀.replica.requests ++ proposed_upto (slot + 1) x₀.replica
     requests_then =
-        ap (λ o. (x₀.replica.requests ++ proposed_upto slot x₀.replica) ++ lost (is_one rules) (get (kept_from slot x₀.replica.proposals) slot) o) decided
-        ∙ ap (λ o. (x₀.replica.requests ++ proposed_upto slot x₀.replica) ++ lost (is_one rules) o (Some c)) (get_high slot x₀.replica.proposals slot (omega arith))
-        ∙ ap (λ xs. (x₀.replica.requests ++ proposed_upto slot x₀.replica) ++ xs) (lost_is (get x₀.replica.proposals slot) other)
+        ap (λ o. (x₀.replica.requests ++ proposed_upto slot x₀.replica) ++ lost (is_one rules)
+        (get (kept_from slot x₀.replica.proposals) slot) o) decided
+        ∙ ap (λ o. (x₀.replica.requests ++ proposed_upto slot x₀.replica) ++ lost (is_one rules) o (Some c))
+        (get_high slot x₀.replica.proposals slot (omega arith))
+        ∙ ap (λ xs. (x₀.replica.requests ++ proposed_upto slot x₀.replica) ++ xs)
+        (lost_is (get x₀.replica.proposals slot) other)
         ∙ append_assoc x₀.replica.requests (proposed_upto slot x₀.replica) (proposed_at slot)
         ∙ ap (λ xs. x₀.replica.requests ++ xs) proposed_more
 
@@ -254,11 +268,19 @@ module _ (laws : BallotLaws) {O Op Reply : Type 0} (rules : Rules O Op Reply) (n
     then_is =
         let requests = requests_then in
         let proposals = remove_kept x₀.replica.proposals slot in
-        λ i. record x₀ { replica = record x₀.replica { slot_out = slot + 1; requests = requests i; proposals = proposals i; decisions = d } }
+        λ i. record x₀ {
+          replica = record x₀.replica {
+            slot_out = slot + 1;
+            requests = requests i;
+            proposals = proposals i;
+            decisions = d;
+          };
+        }
 
     z_here : node z.cluster n ≡ at_slot (slot + 1) d
     z_here =
-        turns.here laws u.cluster u_sound n there (record (node u.cluster n) { replica = advanced (is_one rules) x₁.replica }) []
+        turns.here laws u.cluster u_sound n there (record
+        (node u.cluster n) { replica = advanced (is_one rules) x₁.replica }) []
         ∙ ap (λ (y : NodeState (Command Op)). record y { replica = advanced (is_one rules) x₁.replica }) u_here
         ∙ then_is
 
@@ -271,7 +293,8 @@ module _ (laws : BallotLaws) {O Op Reply : Type 0} (rules : Rules O Op Reply) (n
 
     z_others : (m : ℕ) → m ≢ n → node z.cluster m ≡ node w.cluster m
     z_others m apart =
-        turns.there laws u.cluster u_sound n there (record (node u.cluster n) { replica = advanced (is_one rules) x₁.replica }) [] m apart
+        turns.there laws u.cluster u_sound n there
+        (record (node u.cluster n) { replica = advanced (is_one rules) x₁.replica }) [] m apart
         ∙ turns.there laws v.cluster sound n there y₁ [] m apart
         ∙ come.others m apart
 
@@ -283,8 +306,18 @@ module _ (laws : BallotLaws) {O Op Reply : Type 0} (rules : Rules O Op Reply) (n
           events = (come.events ++ (Deliver place.0 ∷ [])) ++ (Perform n ∷ []);
           leads = after (Perform n) z (after (Deliver place.0) u come.leads tells) performs;
           each = Each-append (IsCatchingUp n w.cluster) (come.events ++ (Deliver place.0 ∷ [])) (Perform n ∷ [])
-              (Each-append (IsCatchingUp n w.cluster) come.events (Deliver place.0 ∷ []) come.each
-              ((letter_is.0, slot, c, subst (λ ls. slice_get ls place.0 ≡ Some letter_is.0) come.letters place.1, letter_is.2, letter_is.3), tt))
+              (Each-append (IsCatchingUp n w.cluster) come.events (Deliver place.0 ∷ []) come.each (
+                (
+                  letter_is.0,
+                  slot,
+                  c,
+                  subst (λ ls.
+                      slice_get ls place.0 ≡ Some letter_is.0) come.letters place.1,
+                  letter_is.2,
+                  letter_is.3,
+                ),
+                tt,
+              ))
               (refl, tt);
           is = z_world;
           members = come.members;
@@ -300,13 +333,20 @@ module _ (laws : BallotLaws) {O Op Reply : Type 0} (rules : Rules O Op Reply) (n
         }
 
   -- as far as these were told
-  pub comes_to : is_member w.cluster.members n ≡ true → (cs : List (Command Op)) (slot : ℕ) (v : World Op Reply) → HasCome slot v → AreToldFrom w.cluster slot cs
-      → ((s : ℕ) (p c : Command Op) → get x₀.replica.proposals s ≡ Some p → s < slot + length cs → In c cs → is_one rules p c ≡ false)
-      → slot + length cs ≤ w.reach + 1 → v.taken + 2 * length cs ≤ most_events → (z : World Op Reply) × HasCome (slot + length cs) z
+  pub comes_to : is_member w.cluster.members n ≡ true → (cs : List (Command Op)) (slot : ℕ) (v : World Op Reply)
+      → HasCome slot v → AreToldFrom w.cluster slot cs
+      → ((s : ℕ) (p c : Command Op) → get x₀.replica.proposals s ≡ Some p → s < slot + length cs → In c cs
+      → is_one rules p c ≡ false)
+      → slot + length cs ≤ w.reach + 1 → v.taken + 2 * length cs ≤ most_events → (z : World Op Reply) × HasCome
+      (slot + length cs) z
   comes_to member [] slot v come told apart low room = (v, subst (λ s. HasCome s v) (omega arith) come)
   comes_to member (c ∷ cs) slot v come told apart low room =
       let next : slot + 1 + length cs ≡ slot + length (c ∷ cs) = omega arith in
-      let u = z member slot v come c told.0 (λ p e. apart slot p c e (omega arith) (inl refl)) (omega (arith, low)) (omega (arith, room)) in
-      let more = comes_further member slot v come c told.0 (λ p e. apart slot p c e (omega arith) (inl refl)) (omega (arith, low)) (omega (arith, room)) in
-      let r = comes_to member cs (slot + 1) u more told.1 (λ s p b e h i. apart s p b e (omega (arith, h, next)) (inr i)) (omega (arith, low, next)) (omega (arith, room)) in
+      let u = z member slot v come c told.0 (λ p e. apart slot p c e (omega arith) (inl refl)) (omega (arith, low))
+      (omega (arith, room)) in
+      let more = comes_further member slot v come c told.0 (λ p e. apart slot p c e (omega arith) (inl refl))
+      (omega (arith, low)) (omega (arith, room)) in
+      let r = comes_to member cs (slot + 1) u more told.1
+      (λ s p b e h i. apart s p b e (omega (arith, h, next)) (inr i)) (omega (arith, low, next))
+      (omega (arith, room)) in
       (r.0, subst (λ s. HasCome s r.0) next r.1)

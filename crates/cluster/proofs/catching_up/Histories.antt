@@ -1,5 +1,6 @@
 -- What a replica has performed is what all were told.
-use Rattle.std.proofs.Common.{◌≡◌, ℕ, zero, suc, ◌+◌, ◌-◌, ◌<◌, ◌≤◌, true, List, [], ◌∷◌, ◌++◌, length, Some, None, Option, refl, sym, ap, ap₂, ◌∙◌, arith}
+use Rattle.std.proofs.Common.{◌≡◌, ℕ, zero, suc, ◌+◌, ◌-◌, ◌<◌, ◌≤◌, true, List, [], ◌∷◌, ◌++◌, length, Some, None}
+use Rattle.std.proofs.Common.{Option, refl, sym, ap, ap₂, ◌∙◌, arith}
 use Rattle.std.specs.Prelude.{IsSome, flat_map}
 use Rattle.std.specs.List.{range_with_len}
 use Rattle.std.specs.Option.{option_to_list}
@@ -41,17 +42,20 @@ module _ {C : Type 0} (k : Cluster C) (decisions : Slots C) where
     pub told_listed : (len base : ℕ) → ((s : ℕ) → base ≤ s → s < base + len → IsSome (get decisions s))
         → AreToldFrom k base (listed base len) × (length (listed base len) ≡ len)
     told_listed zero base known = (tt, refl)
-    told_listed (suc len) base known = told_step base (listed (base + 1) len) len (get decisions base) refl (known base (omega arith) (omega arith))
+    told_listed (suc len) base known = told_step base (listed (base + 1) len) len (get decisions base) refl
+        (known base (omega arith) (omega arith))
         (told_listed len (base + 1) (λ s low high. known s (omega arith) (omega arith)))
 
   -- and what was told is what is known
   module _ (one : (s : ℕ) (c d : C) → IsToldToAll k s c → get decisions s ≡ Some d → d ≡ c) where
-    same_step : (base : ℕ) (c : C) (xs cs : List C) (o : Option C) → get decisions base ≡ o → IsSome o → IsToldToAll k base c
+    same_step : (base : ℕ) (c : C) (xs cs : List C) (o : Option C) → get decisions base ≡ o → IsSome o
+        → IsToldToAll k base c
         → xs ≡ cs → option_to_list o ++ xs ≡ c ∷ cs
     same_step base c xs cs None e some told same = absurd (cc)
     same_step base c xs cs (Some d) e some told same = ap₂ (λ y ys. y ∷ ys) (one base c d told e) same
 
-    pub same_listed : (cs : List C) (base : ℕ) → AreToldFrom k base cs → ((s : ℕ) → base ≤ s → s < base + length cs → IsSome (get decisions s))
+    pub same_listed : (cs : List C) (base : ℕ) → AreToldFrom k base cs
+        → ((s : ℕ) → base ≤ s → s < base + length cs → IsSome (get decisions s))
         → listed base (length cs) ≡ cs
     same_listed [] base told known = refl
     same_listed (c ∷ cs) base told known = same_step base c (listed (base + 1) (length cs)) cs (get decisions base) refl
@@ -62,13 +66,18 @@ module _ {C : Type 0} (k : Cluster C) (decisions : Slots C) where
 pub told_adds : {Op : Type 0} (k z : Cluster (Command Op)) → z.members ≡ k.members
     → ((l : Letter (Command Op)) → In l k.letters → In l z.letters)
     → (s : ℕ) (c : Command Op) → IsToldToAll k s c → IsToldToAll z s c
-told_adds k z same sent s c told m member = let r = told m (ap (λ ms. is_member ms m) (sym same) ∙ member) in (r.0, sent r.0 r.1, r.2, r.3)
+told_adds k z same sent s c told m member = let r = told m (ap (λ ms. is_member ms m) (sym same) ∙ member) in
+    (r.0, sent r.0 r.1, r.2, r.3)
 
 pub told_from_adds : {Op : Type 0} (k z : Cluster (Command Op)) → z.members ≡ k.members
     → ((l : Letter (Command Op)) → In l k.letters → In l z.letters)
     → (cs : List (Command Op)) (s : ℕ) → AreToldFrom k s cs → AreToldFrom z s cs
 told_from_adds k z same sent [] s told = tt
-told_from_adds k z same sent (c ∷ cs) s told = (told_adds k z same sent s c told.0, told_from_adds k z same sent cs (s + 1) told.1)
+told_from_adds k z same sent (c ∷ cs) s told = (
+  told_adds k z same sent s c told.0,
+  told_from_adds k z same sent cs
+      (s + 1) told.1,
+)
 
 module _ (laws : BallotLaws) {O Op Reply : Type 0} (rules : Rules O Op Reply) where
   -- a host may hand on what it has come to
@@ -79,7 +88,8 @@ module _ (laws : BallotLaws) {O Op Reply : Type 0} (rules : Rules O Op Reply) wh
       let performed = (books laws rules w i n).performed in
       let first = performed.first in
       let out = ap (λ b. b.slot_out) shows.held.state.replica in
-      let t = told_listed w.cluster book.decisions (λ q c e. (every_tells laws rules w i).known n q c e) (book.slot_out - 1) 1
+      let t = told_listed w.cluster book.decisions (λ q c e. (every_tells laws rules w i).known n q c e)
+      (book.slot_out - 1) 1
       (λ q low high. performed.known q (omega arith) (omega (arith, low, high, first))) in
       let count = t.1 in
       let near = within_reach laws rules w i n in
@@ -91,7 +101,8 @@ module _ (laws : BallotLaws) {O Op Reply : Type 0} (rules : Rules O Op Reply) wh
         reach = omega (arith, count, near, first);
       }
 
-  pub snapshot_stays : (slot : ℕ) (object : Filtered O) (w v : World Op Reply) (e : Event Op) → Step rules w e v → IsSnapshot rules slot object w → IsSnapshot rules slot object v
+  pub snapshot_stays : (slot : ℕ) (object : Filtered O) (w v : World Op Reply) (e : Event Op) → Step rules w e v
+      → IsSnapshot rules slot object w → IsSnapshot rules slot object v
   snapshot_stays slot object w v e step is =
       let adds = step_adds rules w v e step in
       let low = reach_grows rules w v e step in
@@ -105,8 +116,10 @@ module _ (laws : BallotLaws) {O Op Reply : Type 0} (rules : Rules O Op Reply) wh
       }
 
   -- a replica that has come as far has performed what was told
-  pub history_told : (w : World Op Reply) → IsWorld rules w → (n : ℕ) → is_member w.cluster.members n ≡ true → (cs : List (Command Op))
-      → AreToldFrom w.cluster 1 cs → (node w.cluster n).replica.slot_out ≡ length cs + 1 → history (node w.cluster n).replica ≡ cs
+  pub history_told : (w : World Op Reply) → IsWorld rules w → (n : ℕ) → is_member w.cluster.members n ≡ true
+      → (cs : List (Command Op))
+      → AreToldFrom w.cluster 1 cs → (node w.cluster n).replica.slot_out ≡ length cs + 1 → history
+      (node w.cluster n).replica ≡ cs
   history_told w i n member cs told out =
       let book = (node w.cluster n).replica in
       let performed = (books laws rules w i n).performed in
@@ -114,5 +127,6 @@ module _ (laws : BallotLaws) {O Op Reply : Type 0} (rules : Rules O Op Reply) wh
       ap (λ l. listed w.cluster book.decisions 1 l) len
       ∙ same_listed w.cluster book.decisions
       (λ s c d t e. let r = t n member in
-      agrees laws rules w i s d c (is_decided laws rules w i n s d e) (decides_what_is_chosen laws rules w i r.0 s c r.1 r.3))
+      agrees laws rules w i s d c (is_decided laws rules w i n s d e)
+      (decides_what_is_chosen laws rules w i r.0 s c r.1 r.3))
       cs 1 told (λ s low high. performed.known s (omega arith) (omega (arith, out, low, high)))

@@ -1,5 +1,6 @@
 -- Events are counted at each host.
-use Rattle.std.proofs.Common.{◌≡◌, ◌≢◌, ⊎_elim, ℕ, zero, suc, ◌+◌, ◌*◌, ◌^◌, ◌<◌, ◌≤◌, ◌==◌, true, false, cond, List, length, ap, arith}
+use Rattle.std.proofs.Common.{◌≡◌, ◌≢◌, ⊎_elim, ℕ, zero, suc, ◌+◌, ◌*◌, ◌^◌, ◌<◌, ◌≤◌, ◌==◌, true, false, cond, List}
+use Rattle.std.proofs.Common.{length, ap, arith}
 use Rattle.std.proofs.lemmas.Bool.{cases_eq}
 use Rattle.std.proofs.lemmas.Bool.Decides.{nat_tests}
 use Rattle.ballot.specs.Members.{is_member}
@@ -34,7 +35,8 @@ module _ (taken : ℕ → ℕ) (n j : ℕ) where
       let same = ap taken e in
       omega (arith, here, rest, same)
 
-  count_with : (len first : ℕ) → first ≤ n → n < first + len → events_from more first len ≡ events_from taken first len + j
+  count_with : (len first : ℕ) → first ≤ n → n < first + len
+      → events_from more first len ≡ events_from taken first len + j
   count_with zero first low high = absurd (omega arith)
   count_with (suc len) first low high = ⊎_elim
       (λ (e : first ≡ n). count_here len first e)
@@ -49,14 +51,16 @@ pub count_more : (members : List ℕ) (taken : ℕ → ℕ) (n j : ℕ) → is_m
 count_more members taken n j member = let b = member_bounds members n member in let low = b.0 in let high = b.1 in
     count_with taken n j (length members) 1 low (omega (arith, high))
 
-few_each : (taken : ℕ → ℕ) (len first : ℕ) → ((n : ℕ) → taken n ≤ 2 ^ 45) → events_from taken first len ≤ len * 35184372088832
+few_each : (taken : ℕ → ℕ) (len first : ℕ) → ((n : ℕ) → taken n ≤ 2 ^ 45)
+    → events_from taken first len ≤ len * 35184372088832
 few_each taken zero first each = omega arith
 few_each taken (suc len) first each =
     let here : taken first ≤ 35184372088832 = each first in
     let rest = few_each taken len (first + 1) each in
     omega (arith, here, rest)
 
-pub few_in_all : (taken : ℕ → ℕ) (len : ℕ) → len ≤ 7 → ((n : ℕ) → taken n ≤ 2 ^ 45) → events_from taken 1 len ≤ most_events
+pub few_in_all : (taken : ℕ → ℕ) (len : ℕ) → len ≤ 7 → ((n : ℕ) → taken n ≤ 2 ^ 45)
+    → events_from taken 1 len ≤ most_events
 few_in_all taken len low each = let all = few_each taken len 1 each in
     let most : len * 35184372088832 ≤ 281474976710656 = omega (arith, low) in
     let whole : events_from taken 1 len ≤ 281474976710656 = omega (arith, all, most) in whole

@@ -1,5 +1,6 @@
 -- One command more is handed in at a host: a key has one command still.
-use Rattle.std.proofs.Common.{◌≡◌, ◌≢◌, ◌⊎◌, inl, inr, ⊎_elim, ℕ, ◌==◌, Bool, true, false, cond, List, [], ◌∷◌, ◌++◌, sym, ap, ◌∙◌, subst}
+use Rattle.std.proofs.Common.{◌≡◌, ◌≢◌, ◌⊎◌, inl, inr, ⊎_elim, ℕ, ◌==◌, Bool, true, false, cond, List, [], ◌∷◌, ◌++◌}
+use Rattle.std.proofs.Common.{sym, ap, ◌∙◌, subst}
 use Rattle.std.proofs.lemmas.Bool.{cases_eq}
 use Rattle.object.specs.ListLaws.{In-cases, In-left}
 use Rattle.object.specs.Lists.{In}
@@ -16,7 +17,8 @@ module _ {Op : Type 0} (handed : ℕ → List (Command Op)) (n : ℕ) (c : Comma
       (λ (e : m ≡ n). ⊎_elim
       (λ (j : In d (handed m)). inl j)
       (λ (j : In d (c ∷ [])). ⊎_elim (λ (f : d ≡ c). inr (f, e)) (λ none. absurd none) j)
-      (In-cases d (handed m) (c ∷ []) (subst (In d) (ap (λ b. cond b (handed m ++ (c ∷ [])) (handed m)) (yes m n e)) i)))
+      (In-cases d (handed m) (c ∷ []) (subst (In d)
+      (ap (λ b. cond b (handed m ++ (c ∷ [])) (handed m)) (yes m n e)) i)))
       (λ (apart : m ≢ n). inl (subst (In d) (ap (λ b. cond b (handed m ++ (c ∷ [])) (handed m)) (no m n apart)) i))
       (cases_eq m n)
 
@@ -35,7 +37,8 @@ module _ {Op : Type 0} (handed : ℕ → List (Command Op)) (n : ℕ) (c : Comma
         let there : m ≡ n = sym (before.owned m d i) ∙ ap (λ (q : Key). owner q.session) same ∙ mine in
         own d (subst (λ o. In d (handed o)) there i) same
 
-    one_each : (m : ℕ) (a b : Command Op) → In a (with_handed handed n c m) → In b (with_handed handed n c m) → a.key ≡ b.key → a ≡ b
+    one_each : (m : ℕ) (a b : Command Op) → In a (with_handed handed n c m) → In b (with_handed handed n c m)
+        → a.key ≡ b.key → a ≡ b
     one_each m a b i j e = ⊎_elim
         (λ (old : In a (handed m)). ⊎_elim
         (λ (too : In b (handed m)). before.one m a b old too e)

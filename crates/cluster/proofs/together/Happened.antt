@@ -1,5 +1,6 @@
 -- What clients of hosts saw is a part of what happened in the world.
-use Rattle.std.proofs.Common.{◌≡◌, ◌≤◌, ◌⊎◌, inl, inr, ⊎_elim, ℕ, Bool, true, false, cond, ◌||◌, List, [], ◌∷◌, ◌++◌, length, length-append, take, refl, sym, ap, ◌∙◌, subst, arith}
+use Rattle.std.proofs.Common.{◌≡◌, ◌≤◌, ◌⊎◌, inl, inr, ⊎_elim, ℕ, Bool, true, false, cond, ◌||◌, List, [], ◌∷◌, ◌++◌}
+use Rattle.std.proofs.Common.{length, length-append, take, refl, sym, ap, ◌∙◌, subst, arith}
 use Rattle.std.specs.List.{list_any}
 use Rattle.std.proofs.lemmas.List.{take-append-le, take_all}
 use Rattle.object.specs.Happenings.{Happenings, nothing, with_submission, with_answers, is_submitted, submitted_key}
@@ -37,10 +38,12 @@ module _ {Op Reply : Type 0} where
 
   module _ (h g : Happenings Op Reply) (part : IsPartOf h g) where
     -- more answers than those before a submission
-    before_more : (xs more : List (Answer Reply)) (n : ℕ) → n ≤ length xs → (a : Answer Reply) → In a (take n (xs ++ more)) → In a (take n xs)
+    before_more : (xs more : List (Answer Reply)) (n : ℕ) → n ≤ length xs → (a : Answer Reply)
+        → In a (take n (xs ++ more)) → In a (take n xs)
     before_more xs more n low a i = subst (In a) (take-append-le n xs more low) i
 
-    before_fewer : (xs more : List (Answer Reply)) (n : ℕ) → n ≤ length xs → (a : Answer Reply) → In a (take n xs) → In a (take n (xs ++ more))
+    before_fewer : (xs more : List (Answer Reply)) (n : ℕ) → n ≤ length xs → (a : Answer Reply) → In a (take n xs)
+        → In a (take n (xs ++ more))
     before_fewer xs more n low a i = subst (In a) (sym (take-append-le n xs more low)) i
 
     longer : (xs more : List (Answer Reply)) (n : ℕ) → n ≤ length xs → n ≤ length (xs ++ more)
@@ -54,7 +57,8 @@ module _ {Op Reply : Type 0} where
         t.0,
         t.1,
         t.2,
-        λ a j. before_fewer g.answers given t.0.after (part.beyond t.0 t.1) a (t.3 a (before_more h.answers given s.after (part.within s i) a j)),
+        λ a j. before_fewer g.answers given t.0.after (part.beyond t.0 t.1) a
+            (t.3 a (before_more h.answers given s.after (part.within s i) a j)),
       );
       back = part.back;
       answers = λ a i. ⊎_elim
@@ -94,7 +98,8 @@ module _ {Op Reply : Type 0} where
       back = part.back;
       answers = λ b i. ⊎_elim
           (λ (j : In b h.answers). part.answers b j)
-          (λ (j : In b (a ∷ [])). ⊎_elim (λ (e : b ≡ a). part.answers b (subst (λ z. In z h.answers) (sym e) was)) (λ none. absurd none) j)
+          (λ (j : In b (a ∷ [])). ⊎_elim (λ (e : b ≡ a). part.answers b (subst (λ z. In z h.answers) (sym e) was))
+          (λ none. absurd none) j)
           (In-cases b h.answers (a ∷ []) i);
       within = λ s i. longer h.answers (a ∷ []) s.after (part.within s i);
       beyond = part.beyond;
@@ -108,18 +113,21 @@ module _ {Op Reply : Type 0} where
       abbrev t₀ : Submission Op
       t₀ = record { command = c; after = length g.answers }
 
-      all_before : (a : Answer Reply) → In a (take (length h.answers) h.answers) → In a (take (length g.answers) g.answers)
+      all_before : (a : Answer Reply) → In a (take (length h.answers) h.answers)
+          → In a (take (length g.answers) g.answers)
       all_before a i = subst (In a) (sym (take_all (length g.answers) g.answers (omega arith)))
           (part.answers a (subst (In a) (take_all (length h.answers) h.answers (omega arith)) i))
 
-      one_more : IsPartOf (record h { submitted = h.submitted ++ (s₀ ∷ []) }) (record g { submitted = g.submitted ++ (t₀ ∷ []) })
+      one_more : IsPartOf (record h { submitted = h.submitted ++ (s₀ ∷ []) })
+          (record g { submitted = g.submitted ++ (t₀ ∷ []) })
       one_more = record {
         keys = λ key.
             any_end (λ s. same_key (submitted_key s) key) h.submitted (s₀ ∷ [])
             ∙ ap (λ b. b || list_any (λ s. same_key (submitted_key s) key) (s₀ ∷ [])) (part.keys key)
             ∙ sym (any_end (λ s. same_key (submitted_key s) key) g.submitted (t₀ ∷ []));
         submitted = λ s i. ⊎_elim
-            (λ (j : In s h.submitted). let t = part.submitted s j in (t.0, In-left t.0 g.submitted (t₀ ∷ []) t.1, t.2, t.3))
+            (λ (j : In s h.submitted). let t = part.submitted s j in
+            (t.0, In-left t.0 g.submitted (t₀ ∷ []) t.1, t.2, t.3))
             (λ (j : In s (s₀ ∷ [])). ⊎_elim
             (λ (e : s ≡ s₀). (
               t₀,
@@ -132,7 +140,12 @@ module _ {Op Reply : Type 0} where
         back = λ t i. ⊎_elim
             (λ (j : In t g.submitted). let s = part.back t j in (s.0, In-left s.0 h.submitted (s₀ ∷ []) s.1, s.2))
             (λ (j : In t (t₀ ∷ [])). ⊎_elim
-            (λ (e : t ≡ t₀). (s₀, In-right s₀ h.submitted (s₀ ∷ []) (inl refl), ap (λ (z : Submission Op). z.command) (sym e)))
+            (λ (e : t ≡ t₀). (
+              s₀,
+              In-right s₀ h.submitted (s₀ ∷ []) (inl refl),
+              ap (λ (z : Submission Op). z.command)
+                  (sym e),
+            ))
             (λ none. absurd none) j)
             (In-cases t g.submitted (t₀ ∷ []) i);
         answers = part.answers;
@@ -169,7 +182,8 @@ module _ {Op Reply : Type 0} where
     asked_part deeds.Restart = part
 
     -- what is legal for the world is legal for the hosts
-    pub legal_part : {O : Type 0} (rules : Rules O Op Reply) (order : List (Command Op)) → IsLegal rules g order → IsLegal rules h order
+    pub legal_part : {O : Type 0} (rules : Rules O Op Reply) (order : List (Command Op)) → IsLegal rules g order
+        → IsLegal rules h order
     legal_part rules order legal = record {
       submitted = λ c i. let t = legal.submitted c i in let s = part.back t.0 t.1 in (s.0, s.1, s.2 ∙ t.2);
       rising = legal.rising;
@@ -177,7 +191,8 @@ module _ {Op Reply : Type 0} where
       once = legal.once;
       later = λ s i a before m n given stands.
           let t = part.submitted s i in
-          legal.later t.0 t.1 a (t.3 a before) m n given (subst (λ (k : Command Op). StandsAt k.key order n) (sym t.2) stands);
+          legal.later t.0 t.1 a (t.3 a before) m n given
+          (subst (λ (k : Command Op). StandsAt k.key order n) (sym t.2) stands);
     }
 
 -- what was submitted, after one command more
@@ -188,9 +203,11 @@ module _ {Op Reply : Type 0} (c : Command Op) (h : Happenings Op Reply) where
   pub submitted_before : (t : Submission Op) → In t (with_submission c h).submitted → In t h.submitted ⊎ (t.command ≡ c)
   submitted_before t i = at (is_submitted c.key h.submitted) i
     where
-      at : (b : Bool) → In t (cond b h (record h { submitted = h.submitted ++ (last ∷ []) })).submitted → In t h.submitted ⊎ (t.command ≡ c)
+      at : (b : Bool) → In t (cond b h (record h { submitted = h.submitted ++ (last ∷ []) })).submitted
+          → In t h.submitted ⊎ (t.command ≡ c)
       at true j = inl j
       at false j = ⊎_elim
           (λ (k : In t h.submitted). inl k)
-          (λ (k : In t (last ∷ [])). ⊎_elim (λ (e : t ≡ last). inr (ap (λ (z : Submission Op). z.command) e)) (λ none. absurd none) k)
+          (λ (k : In t (last ∷ [])). ⊎_elim (λ (e : t ≡ last). inr (ap (λ (z : Submission Op). z.command) e))
+          (λ none. absurd none) k)
           (In-cases t h.submitted (last ∷ []) j)

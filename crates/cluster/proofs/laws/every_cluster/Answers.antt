@@ -7,14 +7,22 @@ use Rattle.cluster.proofs.laws.every_cluster.Goals as goal
 
 pub returns-clause-shown : goal.returns-clause-shown
 returns-clause-shown g c = λ owner members k are room. hosts_show c.ballot_laws.ensures
-    (record { none = c.filter_remembers.ensures.none; done = c.filter_remembers.ensures.done; stale = c.filter_remembers.ensures.stale })
+    (record {
+      none = c.filter_remembers.ensures.none;
+      done = c.filter_remembers.ensures.done;
+      stale = c.filter_remembers.ensures.stale;
+    })
     g.O.Object.rules (one_exact g.O.Object.rules g.O.Op.PartialEq.eq g.met.O.Object.same g.met.O.Op.Value.exact)
     (one_itself g.O.Object.rules g.O.Op.PartialEq.eq g.met.O.Object.same g.met.O.Op.Eq.laws.refl)
     (told_apart g.O.Op.PartialEq.eq g.met.O.Op.Value.exact g.met.O.Op.Eq.laws.refl) owner members k are room
 
 pub returns-clause-goes_on : goal.returns-clause-goes_on
 returns-clause-goes_on g c = λ owner k z w shows step room. step_shows c.ballot_laws.ensures
-    (record { none = c.filter_remembers.ensures.none; done = c.filter_remembers.ensures.done; stale = c.filter_remembers.ensures.stale })
+    (record {
+      none = c.filter_remembers.ensures.none;
+      done = c.filter_remembers.ensures.done;
+      stale = c.filter_remembers.ensures.stale;
+    })
     g.O.Object.rules (one_exact g.O.Object.rules g.O.Op.PartialEq.eq g.met.O.Object.same g.met.O.Op.Value.exact)
     (one_itself g.O.Object.rules g.O.Op.PartialEq.eq g.met.O.Object.same g.met.O.Op.Eq.laws.refl)
     (told_apart g.O.Op.PartialEq.eq g.met.O.Op.Value.exact g.met.O.Op.Eq.laws.refl) owner k z w shows step room
@@ -22,7 +30,11 @@ returns-clause-goes_on g c = λ owner k z w shows step room. step_shows c.ballot
 pub returns-clause-legal : goal.returns-clause-legal
 returns-clause-legal g c = λ owner members k are room.
     let r = hosts_show c.ballot_laws.ensures
-    (record { none = c.filter_remembers.ensures.none; done = c.filter_remembers.ensures.done; stale = c.filter_remembers.ensures.stale })
+    (record {
+      none = c.filter_remembers.ensures.none;
+      done = c.filter_remembers.ensures.done;
+      stale = c.filter_remembers.ensures.stale;
+    })
     g.O.Object.rules (one_exact g.O.Object.rules g.O.Op.PartialEq.eq g.met.O.Object.same g.met.O.Op.Value.exact)
     (one_itself g.O.Object.rules g.O.Op.PartialEq.eq g.met.O.Object.same g.met.O.Op.Eq.laws.refl)
     (told_apart g.O.Op.PartialEq.eq g.met.O.Op.Value.exact g.met.O.Op.Eq.laws.refl) owner members k are room in
