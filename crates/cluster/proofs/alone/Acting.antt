@@ -168,7 +168,7 @@ some_there None h = absurd (cc)
 some_there (Some x) h = (x, refl)
 
 -- a number that is new is greater than each of its session
-same_number : (a b : ℕ) → a ≡ b → (a == b) ≡ true
+pub same_number : (a b : ℕ) → a ≡ b → (a == b) ≡ true
 same_number a b e = grind (arith, nat_tests, e)
 
 new_above : (a b : ℕ) → nat_lt a b ≡ true → a < b

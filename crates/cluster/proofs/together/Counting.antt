@@ -7,12 +7,10 @@ use Rattle.ballot.specs.Members.{is_member}
 use Rattle.agreement.specs.Runs.{most_events}
 use Rattle.agreement.proofs.chosen.Sets.{member_bounds}
 use Rattle.cluster.specs.Clusters.{events_from, with_at}
+use Rattle.cluster.proofs.alone.Acting.{same_number}
 
-pub yes : (m n : ℕ) → m ≡ n → (m == n) ≡ true
-yes m n e = grind (arith, nat_tests, e)
-
-pub no : (m n : ℕ) → m ≢ n → (m == n) ≡ false
-no m n e = grind (arith, nat_tests, e)
+pub other_number : (m n : ℕ) → m ≢ n → (m == n) ≡ false
+other_number m n e = grind (arith, nat_tests, e)
 
 behind : (m n : ℕ) → n < m → m ≢ n
 behind m n h e = absurd (omega (arith, h, e))
@@ -24,13 +22,13 @@ module _ (taken : ℕ → ℕ) (n j : ℕ) where
   count_behind : (len first : ℕ) → n < first → events_from more first len ≡ events_from taken first len
   count_behind zero first h = omega arith
   count_behind (suc len) first h =
-      let here = ap (λ b. cond b (taken n + j) (taken first)) (no first n (behind first n h)) in
+      let here = ap (λ b. cond b (taken n + j) (taken first)) (other_number first n (behind first n h)) in
       let rest = count_behind len (first + 1) (omega arith) in
       omega (arith, here, rest)
 
   count_here : (len first : ℕ) → first ≡ n → events_from more first (suc len) ≡ events_from taken first (suc len) + j
   count_here len first e =
-      let here = ap (λ b. cond b (taken n + j) (taken first)) (yes first n e) in
+      let here = ap (λ b. cond b (taken n + j) (taken first)) (same_number first n e) in
       let rest = count_behind len (first + 1) (omega arith) in
       let same = ap taken e in
       omega (arith, here, rest, same)
@@ -41,7 +39,7 @@ module _ (taken : ℕ → ℕ) (n j : ℕ) where
   count_with (suc len) first low high = ⊎_elim
       (λ (e : first ≡ n). count_here len first e)
       (λ (e : first ≢ n).
-      let here = ap (λ b. cond b (taken n + j) (taken first)) (no first n e) in
+      let here = ap (λ b. cond b (taken n + j) (taken first)) (other_number first n e) in
       let rest = count_with len (first + 1) (omega (arith, low, e)) (omega (arith, high)) in
       omega (arith, here, rest))
       (cases_eq first n)

@@ -8,7 +8,8 @@ use Rattle.object.specs.declared.command.Command.{Command}
 use Rattle.object.specs.declared.command.Key.{Key}
 use Rattle.cluster.specs.Clusters.{with_handed}
 use Rattle.cluster.specs.Showing.{IsHandedIn}
-use Rattle.cluster.proofs.together.Counting.{yes, no}
+use Rattle.cluster.proofs.together.Counting.{other_number}
+use Rattle.cluster.proofs.alone.Acting.{same_number}
 
 module _ {Op : Type 0} (handed : ℕ → List (Command Op)) (n : ℕ) (c : Command Op) where
   -- what was handed in at a node is of before, or the new one at its node
@@ -18,8 +19,8 @@ module _ {Op : Type 0} (handed : ℕ → List (Command Op)) (n : ℕ) (c : Comma
       (λ (j : In d (handed m)). inl j)
       (λ (j : In d (c ∷ [])). ⊎_elim (λ (f : d ≡ c). inr (f, e)) (λ none. absurd none) j)
       (In-cases d (handed m) (c ∷ []) (subst (In d)
-      (ap (λ b. cond b (handed m ++ (c ∷ [])) (handed m)) (yes m n e)) i)))
-      (λ (apart : m ≢ n). inl (subst (In d) (ap (λ b. cond b (handed m ++ (c ∷ [])) (handed m)) (no m n apart)) i))
+      (ap (λ b. cond b (handed m ++ (c ∷ [])) (handed m)) (same_number m n e)) i)))
+      (λ (apart : m ≢ n). inl (subst (In d) (ap (λ b. cond b (handed m ++ (c ∷ [])) (handed m)) (other_number m n apart)) i))
       (cases_eq m n)
 
   pub handed_still : (m : ℕ) (d : Command Op) → In d (handed m) → In d (with_handed handed n c m)

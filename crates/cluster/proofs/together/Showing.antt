@@ -49,9 +49,9 @@ use Rattle.cluster.specs.Clusters.{host_acted}
 use Rattle.cluster.specs.Steps.{ClusterStep, hands_in, asks, acts, relays, receives, forgets, compacts, hands_on}
 use Rattle.cluster.specs.Steps.{catches_up, comes_back, AreHosts, at_first, later, IsInternal}
 use Rattle.cluster.specs.Showing.{IsPartOf, IsHandedIn, ShowHosts}
-use Rattle.cluster.proofs.alone.Acting.{acts_unknown}
+use Rattle.cluster.proofs.alone.Acting.{acts_unknown, same_number}
 use Rattle.cluster.proofs.alone.Acting as acting
-use Rattle.cluster.proofs.together.Counting.{yes, no, count_more}
+use Rattle.cluster.proofs.together.Counting.{other_number, count_more}
 use Rattle.cluster.proofs.alone.Elsewhere.{step_leaves, step_adds, leaves_host, leaves_stored, adds_envelope}
 use Rattle.cluster.proofs.alone.Forgetting.{host_forgets, stored_compacts}
 use Rattle.cluster.proofs.together.Happened.{nothing_part, answered_part, told_part, relayed_part, asked_part}
@@ -65,16 +65,16 @@ use Rattle.forgetting.proofs.Gone.{map_In}
 
 module _ {X : Type 0} (host : ℕ → X) (n : ℕ) (s : X) where
   other_at : (m : ℕ) → m ≢ n → with_at host n s m ≡ host m
-  other_at m apart = ap (λ b. cond b s (host m)) (no m n apart)
+  other_at m apart = ap (λ b. cond b s (host m)) (other_number m n apart)
 
   own_at : with_at host n s n ≡ s
-  own_at = ap (λ b. cond b s (host n)) (yes n n refl)
+  own_at = ap (λ b. cond b s (host n)) (same_number n n refl)
 
 module _ {X : Type 0} (host : ℕ → X) (n : ℕ) (s : X) (P : ℕ → X → Type 0) where
   each_host : P n s → ((m : ℕ) → m ≢ n → P m (host m)) → (m : ℕ) → P m (with_at host n s m)
   each_host here there m = ⊎_elim
-      (λ (e : m ≡ n). subst (P m) (sym (ap (λ b. cond b s (host m)) (yes m n e))) (subst (λ j. P j s) (sym e) here))
-      (λ (apart : m ≢ n). subst (P m) (sym (ap (λ b. cond b s (host m)) (no m n apart))) (there m apart))
+      (λ (e : m ≡ n). subst (P m) (sym (ap (λ b. cond b s (host m)) (same_number m n e))) (subst (λ j. P j s) (sym e) here))
+      (λ (apart : m ≢ n). subst (P m) (sym (ap (λ b. cond b s (host m)) (other_number m n apart))) (there m apart))
       (cases_eq m n)
 
 -- one event, and then others
