@@ -1,0 +1,12 @@
+pub mod Hosts
+pub mod Envelopes
+pub mod Storing
+pub mod Asking
+pub mod Acting
+pub mod Elsewhere
+pub mod Snapshots
+pub mod CatchingUp
+pub mod ComingBack
+pub mod Clusters
+pub mod Steps
+pub mod Showing
