@@ -19,6 +19,12 @@ IS_TEST = re.compile(r"^#\[test\]$", re.MULTILINE)
 # So many seconds a crate may run, once it is built.
 LONGEST_RUN = 900
 
+# The interpreter, which `rt try` runs beside, ends after one step.
+QUICK = ("--steps", 1, "--seconds", LONGEST_RUN)
+
+# Of the drawn inputs half are of the plain profile, and half of the extended one, which begins at seed 10,000.
+FIRST_SEED, SEEDS = 9_000, 2_000
+
 
 @unittest.skipUnless(shutil.which("rt"), "the Rattle kit's rt isn't on the path")
 class Layers(Case):
@@ -48,8 +54,7 @@ class Layers(Case):
 
     def run_program(self, name: str, *words: object) -> None:
         """Runs a program: it must print what its file `stdout` has."""
-        # the interpreter, which `rt try` runs beside, ends after one step
-        told = self.try_crate(name, "--steps", 1, "--seconds", LONGEST_RUN, *words)
+        told = self.try_crate(name, *QUICK, *words)
         self.assertEqual(told, (HERE / "rattle" / name / "stdout").read_text())
 
     def test_layers(self):
@@ -58,7 +63,9 @@ class Layers(Case):
 
     def test_drawn_inputs(self):
         """Whatever bytes a client sends, whole and in pieces, it is told the same, and whole replies that may come."""
-        self.run_program("test_fuzz")
+        told = self.try_crate("test_fuzz", *QUICK, "--", FIRST_SEED, SEEDS)
+        self.assertIn(f"\n{SEEDS} inputs, alike whole and in pieces; ", told)
+        self.note(f"seeds from {FIRST_SEED} on")
 
     def test_many_of_each(self):
         """Calls among many jobs, sessions, slots, letters and commands come out as among few."""
