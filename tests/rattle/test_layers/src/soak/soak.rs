@@ -70,10 +70,7 @@ fn most_kept(crowd: &mut Crowd) -> Result<u64, Fail> {
 #[test]
 fn one_node(rt: HostRuntime) -> Result<(), Fail> {
     let soaked = soak(rt.alloc(), 1, 1)?;
-    assert!(rt;
-        soaked.deleted > 600 && soaked.gathered > 30,
-        "{soaked:?}"
-    );
+    assert!(rt; soaked.deleted > 600 && soaked.gathered > 30, "{soaked:?}");
     assert!(rt; soaked.left > 60, "{soaked:?}");
     Ok(())
 }
@@ -81,10 +78,7 @@ fn one_node(rt: HostRuntime) -> Result<(), Fail> {
 #[test]
 fn three_nodes_that_lose_letters(rt: HostRuntime) -> Result<(), Fail> {
     let soaked = soak(rt.alloc(), 3, 2)?;
-    assert!(rt;
-        soaked.deleted > 600 && soaked.gathered > 30,
-        "{soaked:?}"
-    );
+    assert!(rt; soaked.deleted > 600 && soaked.gathered > 30, "{soaked:?}");
     assert!(rt; soaked.left > 60, "{soaked:?}");
     assert!(rt; soaked.lost > 60 && soaked.repeated > 200, "{soaked:?}");
     Ok(())
