@@ -67,10 +67,6 @@ class Layers(Case):
         self.assertIn(f"\n{SEEDS} inputs, alike whole and in pieces; ", told)
         self.note(f"seeds from {FIRST_SEED} on")
 
-    def test_many_of_each(self):
-        """Calls among many jobs, sessions, slots, letters and commands come out as among few."""
-        self.run_program("bench_growth")
-
     def test_calls_that_can_be_refused_memory(self):
         """The courses of calls that may be refused memory come out right where none is refused."""
         self.run_program("test_refusals")
