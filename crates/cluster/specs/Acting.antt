@@ -14,9 +14,9 @@ use Rattle.agreement.specs.Nodes.{node}
 use Rattle.agreement.specs.Steps.{Step}
 use Rattle.agreement.specs.Worlds.{World}
 use Rattle.agreement.specs.declared.event.Event.TheVariants.{Deliver}
-use Rattle.cluster.specs.Asking.{asked}
+use Rattle.cluster.specs.Asking.{with_asked}
 use Rattle.cluster.specs.Envelopes.{AreEnvelopesOf}
-use Rattle.cluster.specs.Hosts.{HostState, ShowsHost, host_turn, with_holding, with_state}
+use Rattle.cluster.specs.Hosts.{HostState, ShowsHost, host_turn, with_holding, with_node_state}
 use Rattle.cluster.specs.Storing.{Stored, IsStored, stored_after}
 
 -- The world's event is the host's deed: it makes a world that the host shows then, to which what it sends belongs, and
@@ -27,7 +27,7 @@ pub record HostActs {O Op Reply : Type 0} (rules : Rules O Op Reply) (s : HostSt
   pub step : Step rules w (event_of n d) world
   pub shows : ShowsHost rules (with_holding s (host_turn rules s d).state) n world.cluster
   pub sent : AreEnvelopesOf s.base (host_turn rules s d).sent world.cluster
-  pub happenings : world.happenings ≡ with_answers (host_turn rules s d).answers (asked d w.happenings)
+  pub happenings : world.happenings ≡ with_answers (host_turn rules s d).answers (with_asked d w.happenings)
   pub stored : (d : Stored Op) → IsStored d n w.cluster → IsStored d n world.cluster
   pub outcome : outcome_held s.holding d ≡ outcome_of (node w.cluster n) d
 
@@ -40,7 +40,7 @@ pub record HostReceives {O Op Reply : Type 0} (rules : Rules O Op Reply) (s : Ho
   pub world : World Op Reply
   pub to : (l : Letter (Command Op)) → slice_get w.cluster.letters place ≡ Some l → l.to ≡ n
   pub step : Step rules w (Deliver place) world
-  pub shows : ShowsHost rules (with_state s new) n world.cluster
+  pub shows : ShowsHost rules (with_node_state s new) n world.cluster
   pub envelopes : AreEnvelopesOf s.base sent world.cluster
   pub stored :
       (d : Stored Op) → d.base ≤ s.base

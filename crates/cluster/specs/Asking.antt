@@ -37,10 +37,10 @@ AsksForUnknown s deeds.Perform submitted = Unit {0}
 AsksForUnknown s deeds.Restart submitted = ⊥
 
 -- a command that is asked for is submitted
-abbrev pub asked : {Op Reply : Type 0} → Deed Op → Happenings Op Reply → Happenings Op Reply
-asked (deeds.Request c) h = with_submission c h
-asked deeds.Wake h = h
-asked deeds.Nudge h = h
-asked deeds.Propose h = h
-asked deeds.Perform h = h
-asked deeds.Restart h = h
+abbrev pub with_asked : {Op Reply : Type 0} → Deed Op → Happenings Op Reply → Happenings Op Reply
+with_asked (deeds.Request c) h = with_submission c h
+with_asked deeds.Wake h = h
+with_asked deeds.Nudge h = h
+with_asked deeds.Propose h = h
+with_asked deeds.Perform h = h
+with_asked deeds.Restart h = h

@@ -7,7 +7,7 @@ use Rattle.object.specs.declared.command.Command.{Command}
 use Rattle.ballot.specs.declared.letter.Letter.{Letter}
 use Rattle.node.specs.Holding.{new_object}
 use Rattle.node.specs.declared.deed.Deed.{Deed}
-use Rattle.cluster.specs.Asking.{asked}
+use Rattle.cluster.specs.Asking.{with_asked}
 use Rattle.cluster.specs.Envelopes.{Envelope}
 use Rattle.cluster.specs.Hosts.{HostState, new_host, host_turn, with_holding}
 use Rattle.cluster.specs.Storing.{Stored, new_stored}
@@ -73,4 +73,4 @@ host_turned k n s sent h = record k {
 abbrev pub host_acted : {O Op Reply : Type 0} → Rules O Op Reply → Hosts Op O Reply → ℕ → Deed Op → Hosts Op O Reply
 host_acted rules k n d =
     host_turned k n (with_holding (k.host n) (host_turn rules (k.host n) d).state) (host_turn rules (k.host n) d).sent
-    (with_answers (host_turn rules (k.host n) d).answers (asked d k.happenings))
+    (with_answers (host_turn rules (k.host n) d).answers (with_asked d k.happenings))

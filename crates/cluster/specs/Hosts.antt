@@ -40,8 +40,8 @@ abbrev pub with_holding : {Op O : Type 0} → HostState Op O → Holding Op O �
 with_holding s h = record { base = s.base; holding = h }
 
 -- the host with another node, and the object as it is
-abbrev pub with_state : {Op O : Type 0} → HostState Op O → NodeState (Command Op) → HostState Op O
-with_state s x = record { base = s.base; holding = record { state = x; object = s.holding.object } }
+abbrev pub with_node_state : {Op O : Type 0} → HostState Op O → NodeState (Command Op) → HostState Op O
+with_node_state s x = record { base = s.base; holding = record { state = x; object = s.holding.object } }
 
 -- the host that has forgotten the slots below a higher base
 abbrev pub forgotten_host : {Op O : Type 0} → ℕ → HostState Op O → HostState Op O

@@ -17,7 +17,7 @@ use Rattle.cluster.specs.CatchingUp.{HasProposedInVain, caught_up}
 use Rattle.cluster.specs.Clusters.{Hosts, new_hosts, with_at, with_handed, host_turned, host_acted}
 use Rattle.cluster.specs.ComingBack.{restarted_host}
 use Rattle.cluster.specs.Envelopes.{Envelope, IsReadAs}
-use Rattle.cluster.specs.Hosts.{with_state, forgotten_host}
+use Rattle.cluster.specs.Hosts.{with_node_state, forgotten_host}
 use Rattle.cluster.specs.Storing.{stored_after, booted, compacted}
 
 -- the deed is one that a node does by itself: it asks for no command, and is no restart
@@ -61,7 +61,7 @@ pub data ClusterStep {O Op Reply : Type 0} (rules : Rules O Op Reply) (owner : �
       → In p k.envelopes
       → IsReadAs p n (k.host n).base left
       → ShowsReceived p.letter.«from» (k.host n).holding.state left new [] sent
-      → ClusterStep rules owner k (record (host_turned k n (with_state (k.host n) new) sent k.happenings) {
+      → ClusterStep rules owner k (record (host_turned k n (with_node_state (k.host n) new) sent k.happenings) {
         stored = with_at k.stored n (stored_after (k.stored n) left);
       })
   forgets :

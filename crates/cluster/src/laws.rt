@@ -24,7 +24,7 @@ ghost use Rattle.cluster.specs.Elsewhere.{IsElsewhere};
 ghost use Rattle.cluster.specs.Envelopes.{Envelope, IsEnvelopeOf, IsReadAs};
 ghost use Rattle.cluster.specs.Hosts.{HostState, ShowsHost, new_host, forgotten_host};
 ghost use Rattle.cluster.specs.Showing.{ShowHosts};
-ghost use Rattle.cluster.specs.Snapshots.{IsSnapshot, IsToldToAll};
+ghost use Rattle.cluster.specs.Snapshots.{IsSnapshot, IsDecidedToAll};
 ghost use Rattle.cluster.specs.Steps.{AreHosts, ClusterStep};
 ghost use Rattle.cluster.specs.Storing.{Stored, IsStored, compacted};
 
@@ -84,7 +84,7 @@ pub fn hosts_alone<O: Object>()
 /// does one that comes back with what it stored, whose boot is one more then (`comes_back`).
 pub fn snapshots<O: Object>()
     ensures decided { InEvery O.rules (λ w. (n s : ℕ) (c : Command O.Op) →
-        get (node w.cluster n).replica.decisions s ≡ Some c → IsToldToAll w.cluster s c) }
+        get (node w.cluster n).replica.decisions s ≡ Some c → IsDecidedToAll w.cluster s c) }
     ensures hands_on { (s : HostState O.Op O) (n : ℕ) (w : World O.Op O.Reply) →
         IsWorld O.rules w → ShowsHost O.rules s n w.cluster →
         IsSnapshot O.rules s.holding.state.replica.slot_out s.holding.object w }

@@ -57,7 +57,7 @@ use Rattle.forgetting.proofs.Holding.{acted_is_held, outcome_is_held, history_re
 use Rattle.forgetting.proofs.Nodes.{left, rest_p2a, rest_receives, rest_fit}
 use Rattle.node.proofs.Keeping.{keeps_all, keeps_p1a, keeps_p2a}
 use Rattle.node.proofs.Shown.{fit_shown}
-use Rattle.cluster.specs.Hosts.{HostState, ShowsHost, host_turn, with_holding, with_state}
+use Rattle.cluster.specs.Hosts.{HostState, ShowsHost, host_turn, with_holding, with_node_state}
 use Rattle.cluster.specs.Envelopes.{Envelope, IsEnvelopeOf, AreEnvelopesOf, IsLegible}
 use Rattle.cluster.specs.Storing.{Stored, IsStored, stored_after}
 use Rattle.cluster.specs.Asking.{AsksForLastSubmitted, AsksForUnknown}
@@ -456,8 +456,8 @@ module _ (laws : BallotLaws) {O Op Reply : Type 0} (filter : FilterLaws Op) (rul
           let stays = history_received w.cluster.members m.«from» n here m.body whole.state whole.letters
           fit book.performed whole.receives in
           let then = turned w.cluster n whole.state whole.letters in
-          let show : ShowsHost rules (with_state s new) n then = turn_shows whole.state whole.letters
-          (with_state s new) refl
+          let show : ShowsHost rules (with_node_state s new) n then = turn_shows whole.state whole.letters
+          (with_node_state s new) refl
           (record {
             state = subst (ShowsNode new) whole.rest shown.1;
             object = shows.held.object ∙ ap (obeyed rules) (sym stays);
@@ -476,7 +476,7 @@ module _ (laws : BallotLaws) {O Op Reply : Type 0} (filter : FilterLaws Op) (rul
             step = deliver place.0 m whole.state whole.letters place.1
                 (subst (λ j. Receives w.cluster.members m.«from» j (node w.cluster j) m.body whole.state whole.letters)
                 (sym at_n) whole.receives);
-            shows = subst (λ j. ShowsHost rules (with_state s new) n (turned w.cluster j whole.state whole.letters))
+            shows = subst (λ j. ShowsHost rules (with_node_state s new) n (turned w.cluster j whole.state whole.letters))
                 (sym at_n) show;
             envelopes = subst (λ j. AreEnvelopesOf s.base sent (turned w.cluster j whole.state whole.letters))
                 (sym at_n) send;

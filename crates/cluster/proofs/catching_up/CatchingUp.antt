@@ -40,7 +40,7 @@ use Rattle.agreement.proofs.chosen.Turns as turns
 use Rattle.agreement.proofs.every.Every.{goes_on}
 use Rattle.forgetting.proofs.Bases.{above_twice}
 use Rattle.cluster.specs.CatchingUp.{IsCatchingUp, proposed_upto}
-use Rattle.cluster.specs.Snapshots.{IsToldToAll, AreToldFrom}
+use Rattle.cluster.specs.Snapshots.{IsDecidedToAll, AreToldFrom}
 use Rattle.cluster.proofs.alone.Acting.{number_in}
 
 -- a map by slot, where what changed is below the base
@@ -166,7 +166,7 @@ module _ (laws : BallotLaws) {O Op Reply : Type 0} (rules : Rules O Op Reply) (n
 
   module _ (member : is_member w.cluster.members n ≡ true) (slot : ℕ) (v : World Op Reply) (come : HasCome slot v)
       (c : Command Op)
-      (told : IsToldToAll w.cluster slot c) (other : (p : Command Op) → get x₀.replica.proposals slot ≡ Some p
+      (told : IsDecidedToAll w.cluster slot c) (other : (p : Command Op) → get x₀.replica.proposals slot ≡ Some p
       → is_one rules p c ≡ false) (low : slot ≤ w.reach)
       (room : v.taken + 2 ≤ most_events) where
     abbrev d : Slots (Command Op)

@@ -23,7 +23,7 @@ use Rattle.agreement.proofs.books.MentionsEvery.{reach_grows}
 use Rattle.agreement.proofs.books.SlotBooksEvery.{books}
 use Rattle.agreement.proofs.every.Every.{agrees, is_decided, decides_what_is_chosen, within_reach}
 use Rattle.cluster.specs.Hosts.{HostState, ShowsHost}
-use Rattle.cluster.specs.Snapshots.{IsToldToAll, AreToldFrom, IsSnapshot}
+use Rattle.cluster.specs.Snapshots.{IsDecidedToAll, AreToldFrom, IsSnapshot}
 use Rattle.cluster.proofs.alone.Elsewhere.{step_adds}
 use Rattle.cluster.proofs.catching_up.Told.{every_tells}
 
@@ -32,7 +32,7 @@ module _ {C : Type 0} (k : Cluster C) (decisions : Slots C) where
   listed base len = flat_map (λ s. option_to_list (get decisions s)) (range_with_len base len)
 
   -- what is known of these slots was told
-  module _ (told : (s : ℕ) (c : C) → get decisions s ≡ Some c → IsToldToAll k s c) where
+  module _ (told : (s : ℕ) (c : C) → get decisions s ≡ Some c → IsDecidedToAll k s c) where
     told_step : (base : ℕ) (rest : List C) (len : ℕ) (o : Option C) → get decisions base ≡ o → IsSome o
         → AreToldFrom k (base + 1) rest × (length rest ≡ len)
         → AreToldFrom k base (option_to_list o ++ rest) × (length (option_to_list o ++ rest) ≡ suc len)
@@ -47,9 +47,9 @@ module _ {C : Type 0} (k : Cluster C) (decisions : Slots C) where
         (told_listed len (base + 1) (λ s low high. known s (omega arith) (omega arith)))
 
   -- and what was told is what is known
-  module _ (one : (s : ℕ) (c d : C) → IsToldToAll k s c → get decisions s ≡ Some d → d ≡ c) where
+  module _ (one : (s : ℕ) (c d : C) → IsDecidedToAll k s c → get decisions s ≡ Some d → d ≡ c) where
     same_step : (base : ℕ) (c : C) (xs cs : List C) (o : Option C) → get decisions base ≡ o → IsSome o
-        → IsToldToAll k base c
+        → IsDecidedToAll k base c
         → xs ≡ cs → option_to_list o ++ xs ≡ c ∷ cs
     same_step base c xs cs None e some told same = absurd (cc)
     same_step base c xs cs (Some d) e some told same = ap₂ (λ y ys. y ∷ ys) (one base c d told e) same
@@ -65,7 +65,7 @@ module _ {C : Type 0} (k : Cluster C) (decisions : Slots C) where
 -- what was told is told in each later world
 pub told_adds : {Op : Type 0} (k z : Cluster (Command Op)) → z.members ≡ k.members
     → ((l : Letter (Command Op)) → In l k.letters → In l z.letters)
-    → (s : ℕ) (c : Command Op) → IsToldToAll k s c → IsToldToAll z s c
+    → (s : ℕ) (c : Command Op) → IsDecidedToAll k s c → IsDecidedToAll z s c
 told_adds k z same sent s c told m member = let r = told m (ap (λ ms. is_member ms m) (sym same) ∙ member) in
     (r.0, sent r.0 r.1, r.2, r.3)
 

@@ -38,7 +38,7 @@ use Rattle.agreement.proofs.chosen.Reach.{opened_at, reachable_sound}
 use Rattle.agreement.proofs.chosen.Sets.{In-numbers}
 use Rattle.agreement.proofs.chosen.Turns.{here, there}
 use Rattle.forgetting.proofs.Gone.{map_In}
-use Rattle.cluster.specs.Snapshots.{IsToldToAll}
+use Rattle.cluster.specs.Snapshots.{IsDecidedToAll}
 
 module _ {C : Type 0} where
   -- what one member is sent of what goes to all, each is sent
@@ -61,12 +61,12 @@ module _ {C : Type 0} where
       (In-cases l (to_all ws n b) (all_to_all ws n bs) i)
 
   pub record TellsAll (k : Cluster C) : Type 0 where
-    pub known : (n s : ℕ) (c : C) → get (node k n).replica.decisions s ≡ Some c → IsToldToAll k s c
-    pub letters : (l : Letter C) → In l k.letters → (s : ℕ) (c : C) → l.body ≡ Decision s c → IsToldToAll k s c
+    pub known : (n s : ℕ) (c : C) → get (node k n).replica.decisions s ≡ Some c → IsDecidedToAll k s c
+    pub letters : (l : Letter C) → In l k.letters → (s : ℕ) (c : C) → l.body ≡ Decision s c → IsDecidedToAll k s c
 
   -- of these letters each that tells a decision is sent to all
   abbrev Tells : Cluster C → List (Letter C) → Type 0
-  Tells z out = (l : Letter C) → In l out → (s : ℕ) (c : C) → l.body ≡ Decision s c → IsToldToAll z s c
+  Tells z out = (l : Letter C) → In l out → (s : ℕ) (c : C) → l.body ≡ Decision s c → IsDecidedToAll z s c
 
   tells_none : (z : Cluster C) → Tells z []
   tells_none z l i s c e = absurd i
@@ -109,11 +109,11 @@ module _ {C : Type 0} where
     abbrev then : Cluster C
     then = turned k n x out
 
-    told_then : (s : ℕ) (c : C) → IsToldToAll k s c → IsToldToAll then s c
+    told_then : (s : ℕ) (c : C) → IsDecidedToAll k s c → IsDecidedToAll then s c
     told_then s c told m is = let r = told m is in (r.0, In-left r.0 k.letters out r.1, r.2, r.3)
 
-    known_then : ((s : ℕ) (c : C) → get x.replica.decisions s ≡ Some c → IsToldToAll then s c) → (m s : ℕ) (c : C)
-        → get (node then m).replica.decisions s ≡ Some c → IsToldToAll then s c
+    known_then : ((s : ℕ) (c : C) → get x.replica.decisions s ≡ Some c → IsDecidedToAll then s c) → (m s : ℕ) (c : C)
+        → get (node then m).replica.decisions s ≡ Some c → IsDecidedToAll then s c
     known_then new m s c e = ⊎_elim
         (λ (same : m ≡ n). new s c (sym (ap (λ (y : NodeState C). get y.replica.decisions s)
         (ap (node then) same ∙ here laws k sound n member x out)) ∙ e))
@@ -121,7 +121,7 @@ module _ {C : Type 0} where
         (sym (ap (λ (y : NodeState C). get y.replica.decisions s) (there laws k sound n member x out m apart)) ∙ e)))
         (cases_eq m n)
 
-    turn_tells : ((s : ℕ) (c : C) → get x.replica.decisions s ≡ Some c → IsToldToAll then s c) → Tells then out
+    turn_tells : ((s : ℕ) (c : C) → get x.replica.decisions s ≡ Some c → IsDecidedToAll then s c) → Tells then out
         → TellsAll then
     turn_tells new says = record {
       known = known_then new;
@@ -174,8 +174,8 @@ module _ {C : Type 0} where
         let same : Decision q.0.0 q.0.1 ≡ Decision s c = sym q.2 ∙ ap (λ (z : Letter C). z.body) (sym r.2) ∙ e in
         let slot : q.0.0 ≡ s = cc in
         let value : q.0.1 ≡ c = cc in
-        subst (λ v. IsToldToAll (turned k n (node k n) out) s v) value
-        (subst (λ u. IsToldToAll (turned k n (node k n) out) u q.0.1) slot
+        subst (λ v. IsDecidedToAll (turned k n (node k n) out) s v) value
+        (subst (λ u. IsDecidedToAll (turned k n (node k n) out) u q.0.1) slot
         (told_then laws k sound all n member (node k n) out q.0.0 q.0.1 (all.known n q.0.0 q.0.1 there_is))))
 
     -- it learns what it is told
@@ -194,7 +194,7 @@ module _ {C : Type 0} where
         (λ (same : (s ≡ t) × (get (insert (node k n).replica.decisions t d) s ≡ Some d)).
         let is : Some d ≡ Some c = sym same.1 ∙ e in
         let value : d ≡ c = cc in
-        subst (λ v. IsToldToAll k s v) value (subst (λ u. IsToldToAll k u d) (sym same.0) (all.letters l i t d told)))
+        subst (λ v. IsDecidedToAll k s v) value (subst (λ u. IsDecidedToAll k u d) (sym same.0) (all.letters l i t d told)))
         (λ (apart : (s ≢ t) × (get (insert (node k n).replica.decisions t d) s ≡ get (node k n).replica.decisions s)).
         all.known n s c (sym apart.1 ∙ e))
         (get_insert_cases (node k n).replica.decisions t d s)))

@@ -14,7 +14,7 @@ use Rattle.object.specs.declared.command.Command.{Command}
 use Rattle.object.specs.declared.command.Submission.{Submission}
 use Rattle.node.specs.declared.deed.Deed.{Deed}
 use Rattle.node.specs.declared.deed.Deed.TheVariants as deeds
-use Rattle.cluster.specs.Asking.{asked}
+use Rattle.cluster.specs.Asking.{with_asked}
 use Rattle.cluster.specs.Showing.{IsPartOf}
 
 any_end : {X : Type 0} (f : X → Bool) (xs ys : List X) → list_any f (xs ++ ys) ≡ list_any f xs || list_any f ys
@@ -173,7 +173,7 @@ module _ {Op Reply : Type 0} where
       pub submitted_part : IsPartOf (with_submission c h) (with_submission c g)
       submitted_part = by_test (is_submitted c.key h.submitted) (is_submitted c.key g.submitted) (part.keys c.key)
 
-    pub asked_part : (d : Deed Op) → IsPartOf (asked d h) (asked d g)
+    pub asked_part : (d : Deed Op) → IsPartOf (with_asked d h) (with_asked d g)
     asked_part (deeds.Request c) = submitted_part c
     asked_part deeds.Wake = part
     asked_part deeds.Nudge = part

@@ -35,12 +35,12 @@ use Rattle.agreement.specs.declared.event.Event.{Event}
 use Rattle.agreement.specs.declared.event.Event.TheVariants.{Deliver, Restart}
 use Rattle.agreement.proofs.order.OneOrder.{leads_later}
 use Rattle.agreement.proofs.every.Every.{goes_on, counts, opens as opens_world}
-use Rattle.cluster.specs.Asking.{AsksForUnknown, asked}
+use Rattle.cluster.specs.Asking.{AsksForUnknown, with_asked}
 use Rattle.cluster.specs.Acting.{HostActs}
 use Rattle.cluster.specs.CatchingUp.{CatchesUp, caught_up}
 use Rattle.cluster.specs.ComingBack.{restarted_host}
 use Rattle.cluster.specs.Elsewhere.{IsElsewhere}
-use Rattle.cluster.specs.Hosts.{HostState, ShowsHost, host_turn, with_holding, with_state, forgotten_host}
+use Rattle.cluster.specs.Hosts.{HostState, ShowsHost, host_turn, with_holding, with_node_state, forgotten_host}
 use Rattle.cluster.specs.Envelopes.{Envelope, IsEnvelopeOf, AreEnvelopesOf}
 use Rattle.cluster.specs.Storing.{Stored, IsStored, new_stored, stored_after, booted, compacted}
 use Rattle.cluster.specs.Snapshots.{IsSnapshot}
@@ -202,7 +202,7 @@ module _ (laws : BallotLaws) {O Op Reply : Type 0} (filter : FilterLaws Op) (rul
 
     -- a deed
     module _ (n : ℕ) (d : Deed Op) (a : HostActs rules (k.host n) n d w) (kept : IsStored (k.stored n) n w.cluster)
-        (submitted : (t : Submission Op) → In t (asked d w.happenings).submitted → In t.command
+        (submitted : (t : Submission Op) → In t (with_asked d w.happenings).submitted → In t.command
         (k.handed (owner t.command.key.session)))
         (member : is_member k.members n ≡ true) (room : total_events k < most_events) where
       deed_shows : Shown (host_acted rules k n d) w
@@ -210,10 +210,10 @@ module _ (laws : BallotLaws) {O Op Reply : Type 0} (filter : FilterLaws Op) (rul
           let given = (host_turn rules (k.host n) d).answers in
           event_shows n (with_holding (k.host n) (host_turn rules (k.host n) d).state)
           (host_turn rules (k.host n) d).sent
-          (with_answers given (asked d k.happenings)) k.stored a.world (event_of n d) a.step
+          (with_answers given (with_asked d k.happenings)) k.stored a.world (event_of n d) a.step
           (λ m apart. deed_elsewhere w n m d apart) a.shows a.sent
-          (subst (IsPartOf (with_answers given (asked d k.happenings))) (sym a.happenings)
-          (answered_part (asked d k.happenings) (asked d w.happenings)
+          (subst (IsPartOf (with_answers given (with_asked d k.happenings))) (sym a.happenings)
+          (answered_part (with_asked d k.happenings) (with_asked d w.happenings)
           (asked_part k.happenings w.happenings show.happenings d) given))
           (λ t i. submitted t (subst (λ (h : Happenings Op Reply). In t h.submitted) a.happenings i))
           (a.stored (k.stored n) kept) (λ m apart. refl) (show.low n) member room
@@ -362,7 +362,7 @@ module _ (laws : BallotLaws) {O Op Reply : Type 0} (filter : FilterLaws Op) (rul
   internal_asks s deeds.Perform submitted internal = tt
   internal_asks s deeds.Restart submitted internal = absurd internal
 
-  internal_asked : (d : Deed Op) (h : Happenings Op Reply) → IsInternal d → asked d h ≡ h
+  internal_asked : (d : Deed Op) (h : Happenings Op Reply) → IsInternal d → with_asked d h ≡ h
   internal_asked (deeds.Request c) h internal = absurd internal
   internal_asked deeds.Wake h internal = refl
   internal_asked deeds.Nudge h internal = refl
@@ -415,7 +415,7 @@ module _ (laws : BallotLaws) {O Op Reply : Type 0} (filter : FilterLaws Op) (rul
       let r = acting.receives laws filter rules exact itself (k.host n) n w show.is (show.hosts n member) decide p
       (show.envelopes p within) reads.receiver reads.legible left reads.rest new sent received in
       let d = stored_after (k.stored n) left in
-      event_shows k w show n (with_state (k.host n) new) sent k.happenings (with_at k.stored n d) r.world
+      event_shows k w show n (with_node_state (k.host n) new) sent k.happenings (with_at k.stored n d) r.world
       (Deliver r.place) r.step
       (λ m apart l at e. apart (e ∙ r.to l at)) r.shows r.envelopes
       (subst (IsPartOf k.happenings) (sym r.happenings) show.happenings)
