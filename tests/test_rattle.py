@@ -30,6 +30,7 @@ FIRST_SEED, SEEDS = 9_000, 2_000
 class Layers(Case):
     # a build takes minutes where others are built beside it
     seconds = 300
+    uses_program = False
     longest = 2400
 
     def try_crate(self, name: str, *words: object) -> str:
@@ -60,6 +61,14 @@ class Layers(Case):
     def test_layers(self):
         """Nodes, worlds, halls, sessions, logs and clusters of threads do what was worked out by hand, case by case."""
         self.run_tests("test_layers")
+
+    def test_cases(self):
+        """Requests, replies, dumps, logs and letters between nodes are as the cases in `test_cases/data` say."""
+        names = sorted(path.name for path in (HERE / "rattle" / "test_cases" / "data").iterdir())
+        data = [word for name in names for word in ("--data", f"{name}=data/{name}")]
+        told = self.try_crate("test_cases", *QUICK, *data, "--", *names)
+        self.assertEqual(told, "".join(f"{name}: 0 differ\n" for name in names))
+        self.note(f"{len(names)} files")
 
     def test_drawn_inputs(self):
         """Whatever bytes a client sends, whole and in pieces, it is told the same, and whole replies that may come."""

@@ -13,103 +13,9 @@ NO_SUCH_FILE = "No such file or directory (os error 2)"
 OPEN = "beanpax: whoever reaches this address may use the queue"
 NO_DUMP = "beanpax: without --sessions no dump is written\n"
 
-# The program may use none of these words so.
-WRONG = """
 
-frobnicate
-run now
-run --nodes
-run --nodes 0
-run --nodes 8
-run --nodes one
-run --seed -1
-run --seed 18446744073709551616
-run --seed 1 --seed 2
-run --stats --stats
-run --port 11300
-run --log a
---nodes 1 run
-serve now
-serve --port 0
-serve --port 65536
-serve --port http
-serve --nodes 8
-serve --workers 0
-serve --workers 65
-serve --sessions 0
-serve --sessions 1000001
-serve --dump
-serve --log
-serve --log a --log b
-serve --sync -1
-serve --sync 3600001
-serve --sync 1s
-serve --stats=true
-serve --seed 1
-serve -l 127.0.0.1
-serve -p 11300
-inspect
-inspect a b
-inspect --nodes 3 a
-"""
-
-BAD_WEIGHTS = """
-run --weights 0,1
-run --weights 1,1001
-run --weights 3,01
-run --weights 3,,1
-run --weights three
-run --weights=
-run --weights 1,1,1,1,1,1,1,1
-run --weights 3,1,1 --nodes 3
-serve --nodes 1 --weights 1
-serve --weights 3;1
-"""
-
-BAD_HOSTS = """
-serve --host=
-serve --host 127.0.0.256
-serve --host 127.0.0.1:11300
-serve --host :::1
-serve --nodes 1 --host 1.2.3 --port 12000
-"""
-
-
-def lines_of(text: str) -> list[list[str]]:
-    return [line.split() for line in text[1:].splitlines()]
-
-
-class WrongWords(Case):
-    def check_wrong(self, words: list[str], text: str | None) -> None:
-        with self.subTest(words=words):
-            ended = self.program(*words, given=b"delete 9\r\n")
-            self.assertEqual((ended.status, ended.output), (2, b""))
-            if text is None:
-                self.assertIn("--help", ended.errors)
-            else:
-                self.assertEqual(ended.errors, text)
-
-    def test_wrong_words_are_told_and_nothing_is_done(self):
-        """Words that ask for nothing end with status 2, a text on the errors, and nothing on the output."""
-        for words in lines_of(WRONG):
-            self.check_wrong(words, None)
-        self.assertEqual([path.name for path in self.folder.iterdir()], [])
-
-    def test_a_value_outside_its_range_is_told(self):
-        """A value outside its range is told with the range."""
-        ended = self.program("run", "--nodes", 8)
-        self.assertEqual(ended.errors, "error: invalid value '8' for '--nodes <N>': 8 is not in 1..=7\n\n"
-                                       "For more information, try '--help'.\n")
-
-    def test_bad_weights_are_told(self):
-        """Weights that are none, or stand beside a number of nodes, are told so."""
-        for words in lines_of(BAD_WEIGHTS):
-            self.check_wrong(words, "beanpax: bad weights\n")
-
-    def test_a_bad_host_is_told(self):
-        """What is no address is told so."""
-        for words in lines_of(BAD_HOSTS):
-            self.check_wrong(words, "beanpax: bad host\n")
+class Words(Case):
+    """Words that no file of cases can have."""
 
     def test_a_word_that_is_no_text_is_wrong(self):
         """A word that isn't UTF-8 is wrong, and nothing is done."""
@@ -118,42 +24,11 @@ class WrongWords(Case):
         self.assertEqual((done.returncode, done.stdout), (2, b""))
         self.assertTrue(done.stderr)
 
-
-class Help(Case):
-    def check_help(self, words: str, *parts: str) -> None:
-        with self.subTest(words=words):
-            ended = self.program(*words.split(), given=b"delete 9\r\n")
-            self.assertEqual((ended.status, ended.errors), (0, ""))
-            for part in parts:
-                self.assertIn(part, ended.output.decode())
-
-    def test_help_names_the_commands(self):
-        """Who asks for help is told each command, with status 0."""
-        for words in ("--help", "-h", "help"):
-            self.check_help(words, "Usage: beanpax <COMMAND>", "run ", "serve ", "inspect ")
-
-    def test_help_names_the_options_of_each_command(self):
-        """The help of a command names each of its options."""
-        for words in ("run --help", "run -h", "help run"):
-            self.check_help(words, "Usage: beanpax run [OPTIONS]", "--nodes ", "--weights ", "--seed ", "--stats")
-        for words in ("serve --help", "serve -h", "help serve"):
-            self.check_help(words, "Usage: beanpax serve [OPTIONS]", "--host ", "--port ", "--nodes ", "--weights ", "--workers ",
-                            "--sessions ", "--dump ", "--log ", "--sync ", "--stats")
-        for words in ("inspect --help", "inspect -h", "help inspect"):
-            self.check_help(words, "Usage: beanpax inspect <FILE>")
-
     def test_help_without_room_is_a_fault(self):
         """Help that can't be written ends with status 1 and the fault."""
         with open("/dev/full", "wb") as full:
             ended = self.program("--help", stdout=full)
         self.assert_fault(ended, "8 write failed")
-
-    def test_the_version_is_told(self):
-        """Who asks for the version, in any of three ways, is told the program's name and its number."""
-        for words in ("--version", "-V", "version"):
-            with self.subTest(words=words):
-                ended = self.program(words)
-                self.assertEqual((ended.status, ended.output, ended.errors), (0, b"beanpax 0.1.0\n", ""))
 
 
 def taken_lines(port: int, host: str = "127.0.0.1") -> str:

@@ -74,7 +74,7 @@ fn obey_keeping<R: Host, E: ByteOut, O: Object>(
         recovery.obey(&commands[done])?;
         if has_passed(rt, since) {
             since = Instant::now(rt).ok();
-            tell_obeyed(done, errors);
+            tell_obeyed(done + 1, errors);
         }
     }
     Ok(recovery.finish(commands)?)

@@ -1,6 +1,4 @@
 //! What a session does where its service refuses or stops.
-ghost use Rattle.std.specs.Prelude.{◌<◌};
-
 use bean_words::{Name, Op, Reply};
 use session::memory::{Ending, PieceReader, PieceWriter};
 use session::{End, Service, ServiceFault, SessionFault, serve};
@@ -107,9 +105,7 @@ static ROWS: [Row; 5] = [
 ];
 
 /// Whether the session goes as its row says, asks for all of it, and closes the service once.
-fn is_right(alloc: Global, row: &Row, piece_len: usize) -> bool
-    requires { 0 < piece_len }
-{
+fn is_right(alloc: Global, row: &Row, piece_len: usize) -> bool {
     let mut tubes = Tubes {
         expected: row.asks,
         asked: 0,

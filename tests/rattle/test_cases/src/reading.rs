@@ -2,9 +2,9 @@
 use crate::quoted::bytes_of;
 use crate::script::{Stage, tell_line};
 use anyhow::{Context, Result, bail};
-use beanpax::inspect_text;
 use chronicle::check;
 use chronicle_text::{WriteText, read_text};
+use inspection::inspect_text;
 use std::alloc::Global;
 
 /// A text.

@@ -1,6 +1,4 @@
 //! Bytes that are quoted in a line.
-ghost use Rattle.std.specs.Prelude.{◌<◌, IfOk};
-
 use anyhow::{Context, Result, bail, ensure};
 use std::alloc::{AllocError, Global};
 
@@ -78,9 +76,7 @@ fn two_digits(high: u8, low: u8) -> Result<u8> {
     Ok(digit(high)? * 16 + digit(low)?)
 }
 
-fn digit(byte: u8) -> Result<u8>
-    ensures { IfOk result (λ d. d < 16) }
-{
+fn digit(byte: u8) -> Result<u8> {
     match byte {
         b'0'..=b'9' => Ok(byte - b'0'),
         b'a'..=b'f' => Ok(byte - b'a' + 10),

@@ -1,6 +1,4 @@
 //! What stands in a queue after a session, and what is told of one whose writer fails.
-ghost use Rattle.std.specs.Prelude.{◌<◌};
-
 use bean_queue::Queue;
 use bean_words::{Op, Reply};
 use object::{Act, Command, Key, Once};
@@ -71,9 +69,7 @@ fn leaves_no_job(
     output: &[u8],
     given: u64,
     piece_len: usize,
-) -> Result<bool, Fail>
-    requires { 0 < piece_len }
-{
+) -> Result<bool, Fail> {
     let mut client = OneClient::new(alloc)?;
     let mut reader = PieceReader::new(input, piece_len, Ending::End);
     let mut writer = PieceWriter::new(alloc, 4096, 1000);

@@ -1,5 +1,5 @@
 //! How many bytes a reader is asked for at a time.
-use crate::echo::Echo;
+use crate::bytes::echo::Echo;
 use session::memory::PieceWriter;
 use session::{End, Reading, serve};
 use std::alloc::{AllocError, Global};

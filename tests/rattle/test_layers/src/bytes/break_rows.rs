@@ -1,19 +1,21 @@
 //! Sessions whose reader or writer breaks off at each of its calls.
-use crate::echo::Echo;
+use crate::bytes::echo::Echo;
 use session::{End, Reading, SessionFault, Writing, serve};
 use std::alloc::{AllocError, Global};
 use std::io;
 use std::io::{ErrorKind, Read, Write};
 use std::test::Fail;
 
-/// Of an input that takes more reads than these, what comes before a read that fails isn't read piece by piece each time: but
-/// for fewer pieces than `MOST_REPEATED` it is read as one.
+/// Of an input that takes more reads than these, not each read fails once: so many of the first and of the last do, and each
+/// of this number. What comes before isn't read piece by piece each time: but for fewer pieces than `MOST_REPEATED` it is read
+/// as one.
 const FEW_READS: usize = 1_024;
 
-const MOST_REPEATED: usize = 64;
+const FIRST_AND_LAST: usize = 256;
 
-/// The reads are shared out among so many tests.
-const SHARES: usize = 4;
+const EACH: usize = 97;
+
+const MOST_REPEATED: usize = 64;
 
 /// Bytes: each part stands there so often.
 type Parts = &'static [(usize, &'static [u8])];
@@ -303,10 +305,17 @@ impl Client {
         }
     }
 
-    /// Of the numbers that leave this remainder, the first number of good reads after which it doesn't go so.
-    fn first_wrong_read(&self, alloc: Global, remainder: usize) -> Option<usize> {
+    /// Whether it is tried that the reads after so many fail.
+    fn is_tried(&self, good_reads: usize) -> bool {
+        let reads = self.reads();
+        let is_near_an_end = good_reads < FIRST_AND_LAST || good_reads > reads.saturating_sub(FIRST_AND_LAST);
+        reads <= FEW_READS || is_near_an_end || good_reads % EACH == 0
+    }
+
+    /// The first number of good reads after which it doesn't go so.
+    fn first_wrong_read(&self, alloc: Global) -> Option<usize> {
         for read in 0..=self.reads() {
-            if read % SHARES == remainder && !self.fails_after(alloc, read) {
+            if self.is_tried(read) && !self.fails_after(alloc, read) {
                 return Some(read);
             }
         }
@@ -324,14 +333,9 @@ impl Client {
     }
 }
 
-fn wrong_read(
-    alloc: Global,
-    row: &Row,
-    piece_len: usize,
-    remainder: usize,
-) -> Result<Option<usize>, Fail> {
+fn wrong_read(alloc: Global, row: &Row, piece_len: usize) -> Result<Option<usize>, Fail> {
     let client = Client::of(alloc, row, piece_len)?;
-    Ok(client.first_wrong_read(alloc, remainder))
+    Ok(client.first_wrong_read(alloc))
 }
 
 fn wrong_write(
@@ -345,39 +349,14 @@ fn wrong_write(
     Ok(client.first_wrong_write(alloc, writes, breaks))
 }
 
-/// The first row, size of a piece, and number of good reads that leaves this remainder, for which it doesn't go so.
-fn first_wrong(alloc: Global, remainder: usize) -> Result<Option<(usize, usize, usize)>, Fail> {
+#[test]
+fn a_reader_fails_at_its_reads(rt: HostRuntime) -> Result<(), Fail> {
     for (number, row) in ROWS.iter().enumerate() {
         for piece_len in row.piece_lens {
-            if let Some(read) = wrong_read(alloc, row, *piece_len, remainder)? {
-                return Ok(Some((number, *piece_len, read)));
-            }
+            let wrong = wrong_read(rt.alloc(), row, *piece_len)?;
+            assert_eq!(rt; wrong, None, "row {number}, {piece_len} at a time");
         }
     }
-    Ok(None)
-}
-
-#[test]
-fn a_reader_fails_at_reads_that_leave_0(rt: HostRuntime) -> Result<(), Fail> {
-    assert_eq!(rt; first_wrong(rt.alloc(), 0)?, None);
-    Ok(())
-}
-
-#[test]
-fn a_reader_fails_at_reads_that_leave_1(rt: HostRuntime) -> Result<(), Fail> {
-    assert_eq!(rt; first_wrong(rt.alloc(), 1)?, None);
-    Ok(())
-}
-
-#[test]
-fn a_reader_fails_at_reads_that_leave_2(rt: HostRuntime) -> Result<(), Fail> {
-    assert_eq!(rt; first_wrong(rt.alloc(), 2)?, None);
-    Ok(())
-}
-
-#[test]
-fn a_reader_fails_at_reads_that_leave_3(rt: HostRuntime) -> Result<(), Fail> {
-    assert_eq!(rt; first_wrong(rt.alloc(), 3)?, None);
     Ok(())
 }
 
