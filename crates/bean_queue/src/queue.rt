@@ -61,19 +61,19 @@ impl<M: JobMap> QueueOver<M> {
         &mut self,
         key: Key,
         op: &Op,
-        out: &mut Vec<Answer<Reply>>,
+        answers: &mut Vec<Answer<Reply>>,
     ) -> Result<(), AllocError>
         requires { lists_tubes op.now ≡ true }
-        ensures { HasObeyed self.old self.new out.old.items out.new.items
+        ensures { HasObeyed self.old self.new answers.old.items answers.new.items
             (do_effect op.now key self.old) result }
     {
-        out.reserve(1)?;
+        answers.reserve(1)?;
         let names = self.take_names()?;
         match self.logic.obey_listing(self.alloc, key, op, &names) {
             Ok(reply) => {
                 self.logic.keep();
                 self.listed = Some(names);
-                out.push(Answer { to: key, reply })?;
+                answers.push(Answer { to: key, reply })?;
                 Ok(())
             }
             Err(e) => {
