@@ -4,4 +4,5 @@ pub mod Served
 pub mod Turned
 pub mod Best
 pub mod Searches
-pub mod Offers
+pub mod Takable
+pub mod Offering

@@ -3,3 +3,4 @@ pub mod TubeSets
 pub mod TubeLists
 pub mod Named
 pub mod Settled
+pub mod Listed

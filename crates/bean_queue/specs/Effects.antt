@@ -205,3 +205,9 @@ is_quiet (Op.Pause tube seconds) = false
 is_quiet (Op.StatsJob id) = true
 is_quiet (Op.StatsTube tube) = true
 is_quiet Op.Stats = true
+
+-- the operation lists all tubes, or counts them
+abbrev pub lists_tubes : Op → Bool
+lists_tubes Op.ListTubes = true
+lists_tubes Op.Stats = true
+lists_tubes _ = false

@@ -11,6 +11,7 @@ mod job_report;
 mod laws;
 mod logic;
 mod look_up;
+mod offers;
 mod queue;
 mod quiet;
 mod ready_again;

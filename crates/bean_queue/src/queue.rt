@@ -1,12 +1,13 @@
-ghost use Rattle.std.specs.Prelude.{◌≡◌, ◌≤◌, ◌^◌, true, false};
-ghost use Rattle.bean_queue.specs.Effects.{do_effect, close_effect, tick_effect, is_quiet};
+ghost use Rattle.std.specs.Prelude.{◌≡◌, ◌≤◌, ◌^◌, true, false, IfOk};
+ghost use Rattle.bean_queue.specs.Effects.{do_effect, close_effect, tick_effect, is_quiet, lists_tubes};
+ghost use Rattle.bean_queue.specs.Tubes.{all_tubes};
 ghost use Rattle.bean_queue.specs.Calls.{HasObeyed};
 
 use crate::laws::one_holder;
 use crate::logic::Logic;
-use crate::quiet::is_quiet;
+use crate::quiet::{is_quiet, lists_tubes};
 use crate::scan_jobs::ScanJobs;
-use bean_words::{Op, Reply};
+use bean_words::{Names, Op, Reply};
 use job_store::{JobMap, Jobs};
 use object::{Act, Answer, Command, Key, Object};
 use std::alloc::{AllocError, Global};
@@ -19,6 +20,8 @@ pub struct QueueOver<M: JobMap> {
     logic: Logic<M>,
     /// The answers of the command that is obeyed, until they are handed out. The list is kept for its room.
     answers: Vec<Answer<Reply>>,
+    /// The names of all tubes, where they were listed and only listed again since.
+    listed: Option<Names>,
 }
 
 /// The queue that goes over all jobs to find one.
@@ -28,29 +31,71 @@ pub type PlainQueue = QueueOver<ScanJobs>;
 pub type Queue = QueueOver<Jobs>;
 
 impl<M: JobMap> Model for QueueOver<M> {
-    ghost use Rattle.std.specs.Prelude.{◌≡◌, None};
+    ghost use Rattle.std.specs.Prelude.{◌≡◌, None, IfSome};
     ghost use Rattle.bean_queue.specs.Queue.{QueueState};
+    ghost use Rattle.bean_queue.specs.Tubes.{all_tubes};
     ghost use Rattle.bean_queue.specs.Turns.{serve_turn};
 
     ghost Value = { QueueState };
 
     ghost view = { λ q. q.logic.now };
 
-    ghost invariant = { λ q. (q.logic.before ≡ q.logic.now) × (serve_turn q.logic.now ≡ None) };
+    ghost invariant = { λ q. (q.logic.before ≡ q.logic.now) × (serve_turn q.logic.now ≡ None)
+        × IfSome q.listed (λ names. names ≡ all_tubes q.logic.now) };
 }
 
 impl<M: JobMap> QueueOver<M> {
-    /// Obeys a quiet operation.
+    /// The names of all tubes. They are made anew, unless they were listed and only listed again since.
+    fn take_names(&mut self) -> Result<Names, AllocError>
+        ensures names { IfOk result (λ names. names ≡ all_tubes self.old) }
+        ensures same { self.new ≡ self.old }
+    {
+        match self.listed.take() {
+            Some(names) => Ok(names),
+            None => self.logic.tubes(self.alloc),
+        }
+    }
+
+    /// Obeys an operation that lists all tubes, or counts them.
+    fn obey_listing(
+        &mut self,
+        key: Key,
+        op: &Op,
+        answers: &mut Vec<Answer<Reply>>,
+    ) -> Result<(), AllocError>
+        requires { lists_tubes op.now ≡ true }
+        ensures { HasObeyed self.old self.new answers.old.items answers.new.items
+            (do_effect op.now key self.old) result }
+    {
+        answers.reserve(1)?;
+        let names = self.take_names()?;
+        match self.logic.obey_listing(self.alloc, key, op, &names) {
+            Ok(reply) => {
+                self.logic.keep();
+                self.listed = Some(names);
+                answers.push(Answer { to: key, reply })?;
+                Ok(())
+            }
+            Err(e) => {
+                self.logic.take_back();
+                Err(e)
+            }
+        }
+    }
+
+    /// Obeys a quiet operation that lists no tubes.
     fn obey_quiet(
         &mut self,
         key: Key,
         op: &Op,
         out: &mut Vec<Answer<Reply>>,
     ) -> Result<(), AllocError>
-        requires { is_quiet op.now ≡ true }
+        requires quiet { is_quiet op.now ≡ true }
+        requires other { lists_tubes op.now ≡ false }
         ensures { HasObeyed self.old self.new out.old.items out.new.items
             (do_effect op.now key self.old) result }
     {
+        self.listed = None;
         out.reserve(1)?;
         match self.logic.obey_quiet(self.alloc, key, op) {
             Ok(reply) => {
@@ -76,6 +121,7 @@ impl<M: JobMap> QueueOver<M> {
         ensures { HasObeyed self.old self.new out.old.items out.new.items
             (do_effect op.now key self.old) result }
     {
+        self.listed = None;
         self.answers.clear();
         if let Err(e) = self.logic.obey_loud(key, op, &mut self.answers) {
             self.logic.take_back();
@@ -95,6 +141,7 @@ impl<M: JobMap> QueueOver<M> {
         ensures { HasObeyed self.old self.new out.old.items out.new.items
             (close_effect session self.old) result }
     {
+        self.listed = None;
         self.answers.clear();
         let alloc = self.alloc;
         if let Err(e) = self.logic.release_all(alloc, session, &mut self.answers) {
@@ -120,6 +167,7 @@ impl<M: JobMap> QueueOver<M> {
         if self.logic.has_come(second) {
             return Ok(());
         }
+        self.listed = None;
         self.answers.clear();
         let over = match self.logic.pass(self.alloc, second, &mut self.answers) {
             Ok(over) => over,
@@ -160,6 +208,7 @@ impl<M: JobMap> Object for QueueOver<M> {
             alloc,
             logic: Logic::new(alloc),
             answers: Vec::new(alloc),
+            listed: None,
         })
     }
 
@@ -168,7 +217,9 @@ impl<M: JobMap> Object for QueueOver<M> {
         let key = cmd.key();
         match cmd.act() {
             Act::Do(op) => {
-                if is_quiet(op) {
+                if lists_tubes(op) {
+                    self.obey_listing(key, op, out)
+                } else if is_quiet(op) {
                     self.obey_quiet(key, op, out)
                 } else {
                     self.obey_loud(key, op, out)

@@ -1,5 +1,5 @@
 ghost use Rattle.std.specs.Prelude.{◌≡◌};
-ghost use Rattle.bean_queue.specs.Effects.{is_quiet};
+ghost use Rattle.bean_queue.specs.Effects.{is_quiet, lists_tubes};
 
 use bean_words::Op;
 
@@ -32,4 +32,11 @@ pub(crate) fn is_quiet(op: &Op) -> bool
         | Op::StatsTube(_)
         | Op::Stats => true,
     }
+}
+
+/// Whether an operation lists all tubes, or counts them.
+pub(crate) fn lists_tubes(op: &Op) -> bool
+    ensures { result ≡ lists_tubes op.now }
+{
+    matches!(op, Op::ListTubes | Op::Stats)
 }

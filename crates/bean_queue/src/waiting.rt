@@ -2,7 +2,7 @@ ghost use Rattle.std.specs.Prelude.{◌≡◌, option_map};
 ghost use Rattle.std.specs.Map.{keys_of};
 ghost use Rattle.job_store.specs.LookUps.{best_ready, not_paused};
 ghost use Rattle.session_store.specs.Fronts.{AreFronts};
-ghost use Rattle.bean_queue.specs.Woken.{best_offer, has_taker};
+ghost use Rattle.bean_queue.specs.Woken.{has_taker};
 
 use bean_words::Name;
 use job_store::{Job, JobMap, more_urgent};
@@ -10,35 +10,18 @@ use pause_store::PauseDraft;
 use session_store::{Fronts, SessionDraft};
 
 /// Whether a tube is not paused, and a waiting session watches it.
-fn has_taker(sessions: &SessionDraft, pauses: &PauseDraft, tube: &Name, fronts: &mut Fronts) -> bool
+pub fn has_taker(
+    sessions: &SessionDraft,
+    pauses: &PauseDraft,
+    tube: &Name,
+    fronts: &mut Fronts,
+) -> bool
     requires { AreFronts fronts.old sessions.now.now }
     ensures taker { result
         ≡ has_taker (keys_of pauses.now.now.pauses) sessions.now.now tube.now }
     ensures fronts { AreFronts fronts.new sessions.now.now }
 {
     !pauses.is_paused(tube) && sessions.next_watcher(tube, fronts).is_some()
-}
-
-/// The most urgent of the ready jobs in these tubes, but for tubes that are paused or that no waiting session watches.
-pub fn best_offer<'a, M: JobMap>(
-    jobs: &'a M,
-    sessions: &SessionDraft,
-    pauses: &PauseDraft,
-    tubes: &[Name],
-    fronts: &mut Fronts,
-) -> Option<(u64, &'a Job)>
-    requires { AreFronts fronts.old sessions.now.now }
-    ensures best { option_map (λ e. (e.0, e.1.now)) result
-        ≡ best_offer (keys_of pauses.now.now.pauses) (M.entries jobs.now) sessions.now.now tubes.now }
-    ensures fronts { AreFronts fronts.new sessions.now.now }
-{
-    let mut best = None;
-    for tube in tubes {
-        if has_taker(sessions, pauses, tube, fronts) {
-            best = more_urgent(best, jobs.first_ready(tube));
-        }
-    }
-    best
 }
 
 /// The best job for one who watches these tubes: of the ready ones in those of them that are not paused, that of the

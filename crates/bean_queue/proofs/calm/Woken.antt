@@ -1,17 +1,16 @@
 -- The tubes that an operation wakes cover all that can be given after it.
-use Rattle.std.proofs.Common.{◌≡◌, ℕ, zero, suc, ◌+◌, ◌^◌, Bool, true, false, cond, ◌&&◌, ◌⊎◌, inl, inr, List, [], ◌∷◌}
+use Rattle.std.proofs.Common.{◌≡◌, ℕ, zero, suc, ◌^◌, Bool, true, false, cond, ◌&&◌, ◌⊎◌, inl, inr, List, [], ◌∷◌}
 use Rattle.std.proofs.Common.{Option, Some, None, IfSome, is_some, ◌==◌, bytes_eq, refl, sym, ap, subst, ◌∙◌}
 use Rattle.std.proofs.Common.{eqb-true, true≢false}
 use Rattle.std.proofs.lemmas.Bool.{and_parts, and_from}
 use Rattle.std.proofs.lemmas.Slice.Eq.{bytes_eq-Decides}
 use Rattle.object.specs.Lists.{In}
-use Rattle.object.specs.declared.command.Answer.{Answer}
 use Rattle.object.specs.declared.command.Key.{Key}
 use Rattle.job_store.specs.declared.job.Job.{Job}
 use Rattle.job_store.specs.Entries.{Rising, value_at, with_value, altered}
 use Rattle.job_store.specs.EntryLaws.{altered-in, insert-in, value_at-In, Rising-altered}
 use Rattle.job_store.specs.LookUps.{is_among, ready_in, first_buried, first_delayed, buried_in, delayed_in, pri_of_job, rank_of_job, due_of_job, not_paused}
-use Rattle.job_store.specs.States.{is_ready, is_held, is_buried, is_delayed, reserved_job, released_job, kicked_job}
+use Rattle.job_store.specs.States.{is_ready, is_held, is_buried, is_delayed, released_job, kicked_job}
 use Rattle.session_store.specs.declared.session.SessionState.{SessionState}
 use Rattle.session_store.specs.Sessions.{is_waiting}
 use Rattle.session_store.specs.WatchLists.{joined}
@@ -19,19 +18,18 @@ use Rattle.pause_store.specs.Pauses.{is_paused, paused_for, tubes_over}
 use Rattle.pause_store.proofs.OneTube.{others, goes-on-or-over}
 use Rattle.pause_store.proofs.Over.{joined-keeps, joined-has}
 use Rattle.bean_words.specs.declared.op.Op.{Op}
-use Rattle.bean_words.specs.declared.reply.Reply.{Reply}
 use Rattle.bean_queue.specs.Best.{IsWanted}
 use Rattle.bean_queue.specs.Queue.{QueueState, paused_tubes, pauses_of, used_by}
 use Rattle.bean_queue.specs.Rows.{Row, kicked, kicked_option, put_job, ready_after, is_job_that, is_idle, row, put_row}
 use Rattle.bean_queue.specs.Rows.{release_row, kick_row, kick_job_row, pause_row}
 use Rattle.bean_queue.specs.Tubes.{all_tubes}
-use Rattle.bean_queue.specs.Turns.{QueueTurn, IsTurn, given, serve_turn}
-use Rattle.bean_queue.specs.TurnLaws.{IsServed, serve_turn-is, least-none, least-in, IfSome-map}
+use Rattle.bean_queue.specs.Turns.{serve_turn}
+use Rattle.bean_queue.specs.TurnLaws.{least-none, least-in, IfSome-map}
 use Rattle.bean_queue.specs.Effects.{released, second_begun, is_quiet}
 use Rattle.bean_queue.specs.Reserving.{is_reserve}
 use Rattle.bean_queue.specs.Woken.{Covers, AreWoken, tube_of, woken_by}
 use Rattle.bean_queue.proofs.best.Paused.{watched-open}
-use Rattle.bean_queue.proofs.calm.Calm.{IsCalmer, was-open, changed-calmer, ended-calmer}
+use Rattle.bean_queue.proofs.calm.Calm.{ended-calmer}
 use Rattle.bean_queue.proofs.best.Served.{idle_none}
 
 -- Where nothing is left to give
@@ -70,37 +68,6 @@ covers-new tubes s t none fewer opens woken j w =
       ]
       | inr named ↦ named
     ]
-
--- Turns
-
-covers-calmer : (tubes : List (List ℕ)) (s t : QueueState) → IsCalmer s t → Covers tubes s → Covers tubes t
-covers-calmer tubes s t c covers j w =
-    covers j (record {
-      there = c.jobs j w.there w.ready;
-      ready = w.ready;
-      unpaused =
-          was-open s t j.1.tube c w.unpaused;
-      watched =
-          (w.watched.0, c.sessions w.watched.0 w.watched.1 w.watched.2, w.watched.2, w.watched.3);
-    })
-
-given-calmer : (s : QueueState) (j : ℕ × Job) (w : ℕ × SessionState) → IsCalmer s (given s j w).state
-unfolding given
-given-calmer s j w = record {
-  jobs = changed-calmer j.0 (reserved_job w.0 (s.now + j.1.ttr)) s.jobs (λ job. refl);
-  sessions = ended-calmer w.0 s.sessions;
-  pauses = λ tube p. p;
-}
-
--- a turn takes a ready job and a waiting session away
-pub covers-turn : (tubes : List (List ℕ)) (s t : QueueState) (xs ys : List (Answer Reply)) (more : Bool)
-    → IsTurn serve_turn s t xs ys more → Covers tubes s → Covers tubes t
-covers-turn tubes s t xs ys false i covers = subst (Covers tubes) (sym i.1) covers
-covers-turn tubes s t xs ys true i covers =
-    let served : IsServed s i.0 = subst (λ o. IfSome o (IsServed s)) i.1 (serve_turn-is s) in
-    subst (Covers tubes) (sym (i.2 ∙ ap (λ (u : QueueTurn). u.state) served.made))
-    (covers-calmer tubes s (given s served.job served.session).state
-    (given-calmer s served.job served.session) covers)
 
 -- Jobs that become ready
 

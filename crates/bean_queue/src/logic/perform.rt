@@ -1,16 +1,18 @@
-ghost use Rattle.std.specs.Prelude.{◌≡◌, true, false, None, IsSome};
+ghost use Rattle.std.specs.Prelude.{◌≡◌, true, false, None, Some, IsSome, IfOk};
+ghost use Rattle.object.specs.declared.command.Key.{Key};
 ghost use Rattle.job_store.specs.Entries.{value_at};
 ghost use Rattle.bean_queue.specs.Rows.{row};
 ghost use Rattle.bean_queue.specs.Turns.{serve_turn};
-ghost use Rattle.bean_queue.specs.Effects.{has_no_number, carried_out, do_effect, is_quiet};
+ghost use Rattle.bean_queue.specs.Effects.{has_no_number, carried_out, do_effect, is_quiet, lists_tubes};
 ghost use Rattle.bean_queue.specs.Calls.{CanObey, CanCarryOut, CanWake, DoesRow, DoesQuietly, DraftsRow, DraftsOutcome};
 ghost use Rattle.bean_queue.specs.Reserving.{wake_outcome};
+ghost use Rattle.bean_queue.specs.Tubes.{all_tubes};
 
 use crate::counters::LIMIT;
 use crate::logic::Logic;
-use bean_words::{Op, Reply};
+use bean_words::{Names, Op, Reply};
 use job_store::JobMap;
-use object::{Answer, Key};
+use object::{Answer, Key, Value};
 use std::alloc::{AllocError, Global};
 
 impl<M: JobMap> Logic<M> {
@@ -25,11 +27,12 @@ impl<M: JobMap> Logic<M> {
         }
     }
 
-    /// Obeys a quiet operation of a session that is there, where a number is left for it.
-    #[tactic(auto, unfolding(crate::specs::Rows::row, crate::specs::Rows::peek_row, crate::specs::Rows::stats_job_row, crate::specs::Rows::stats_tube_row, crate::specs::Rows::stats_row))]
+    /// Obeys a quiet operation of a session that is there, where a number is left for it. It lists no tubes.
+    #[tactic(auto, unfolding(crate::specs::Rows::row, crate::specs::Rows::peek_row, crate::specs::Rows::stats_job_row, crate::specs::Rows::stats_tube_row))]
     fn quiet_row(&mut self, alloc: Global, key: Key, op: &Op) -> Result<Reply, AllocError>
         requires there { IsSome (value_at key.session self.old.now.sessions) }
         requires quiet { is_quiet op.now ≡ true }
+        requires other { lists_tubes op.now ≡ false }
         requires numbered { has_no_number op.now self.old.now ≡ false }
         ensures { DoesRow self.old self.new (row op.now key self.old.now) result }
     {
@@ -46,13 +49,13 @@ impl<M: JobMap> Logic<M> {
             Op::PeekReady => self.peek_ready(session),
             Op::PeekDelayed => self.peek_delayed(session),
             Op::PeekBuried => self.peek_buried(session),
-            Op::ListTubes => Ok(Reply::Tubes(self.tubes(alloc)?)),
             Op::ListTubeUsed => Ok(Reply::Using(self.used(session)?)),
             Op::ListTubesWatched => Ok(Reply::Tubes(self.watched(alloc, session)?)),
             Op::StatsJob(id) => self.stats_job(alloc, *id),
             Op::StatsTube(tube) => self.stats_tube(alloc, tube),
-            Op::Stats => self.stats(alloc),
-            Op::Put { .. }
+            Op::ListTubes
+            | Op::Stats
+            | Op::Put { .. }
             | Op::Reserve { .. }
             | Op::Release { .. }
             | Op::Kick(_)
@@ -61,19 +64,21 @@ impl<M: JobMap> Logic<M> {
         }
     }
 
-    /// Carries out a quiet operation, where a number is left for it and nothing is left to give.
+    /// Carries out a quiet operation, where a number is left for it and nothing is left to give. It lists no tubes.
     fn carry_out_quietly(&mut self, alloc: Global, key: Key, op: &Op) -> Result<Reply, AllocError>
-        requires { CanCarryOut true op.now self.old.now }
+        requires can { CanCarryOut true op.now self.old.now }
+        requires other { lists_tubes op.now ≡ false }
         ensures { DoesQuietly key self.old self.new (carried_out op.now key self.old.now) result }
     {
         self.call(key.session, op)?;
         self.quiet_row(alloc, key, op)
     }
 
-    /// Obeys a quiet operation, where nothing is left to give.
+    /// Obeys a quiet operation that lists no tubes, where nothing is left to give.
     #[tactic(auto, unfolding(crate::specs::Effects::do_effect))]
     pub fn obey_quiet(&mut self, alloc: Global, key: Key, op: &Op) -> Result<Reply, AllocError>
-        requires { CanObey true op.now self.old.now }
+        requires can { CanObey true op.now self.old.now }
+        requires other { lists_tubes op.now ≡ false }
         ensures { DoesQuietly key self.old self.new (do_effect op.now key self.old.now) result }
     {
         if self.has_no_number(op) {
@@ -81,6 +86,39 @@ impl<M: JobMap> Logic<M> {
             return Ok(Reply::InternalError);
         }
         self.carry_out_quietly(alloc, key, op)
+    }
+
+    /// Answers an operation that lists all tubes, whose names these are, or counts them.
+    #[tactic(auto, unfolding(crate::specs::Rows::row, crate::specs::Rows::stats_row))]
+    fn listing_row(&self, alloc: Global, op: &Op, names: &Names) -> Result<Reply, AllocError>
+        requires lists { lists_tubes op.now ≡ true }
+        requires names { names.now ≡ all_tubes self.now.now }
+        ensures { IfOk result (λ reply. (key : Key) → (row op.now key self.now.now).reply ≡ Some reply) }
+    {
+        match op {
+            Op::ListTubes => Ok(Reply::Tubes(names.copy()?)),
+            Op::Stats => self.stats(alloc, names.as_slice().len() as u64),
+            _ => unreachable!(),
+        }
+    }
+
+    /// Obeys an operation that lists all tubes, whose names these are, or counts them. Nothing is left to give before.
+    #[tactic(auto, unfolding(crate::specs::Effects::do_effect))]
+    pub fn obey_listing(
+        &mut self,
+        alloc: Global,
+        key: Key,
+        op: &Op,
+        names: &Names,
+    ) -> Result<Reply, AllocError>
+        requires lists { lists_tubes op.now ≡ true }
+        requires calm { serve_turn self.old.now ≡ None }
+        requires names { names.now ≡ all_tubes self.old.now }
+        ensures does { DoesQuietly key self.old self.new (do_effect op.now key self.old.now) result }
+        ensures names { IfOk result (λ _. names.now ≡ all_tubes self.new.now) }
+    {
+        self.call(key.session, op)?;
+        self.listing_row(alloc, op, names)
     }
 
     /// Obeys an operation that may make jobs ready, of a session that is there, where a number is left for it, but for

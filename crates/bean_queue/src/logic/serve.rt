@@ -1,14 +1,16 @@
-ghost use Rattle.std.specs.Prelude.{◌≡◌, ◌+◌, true, IfOk, option_map};
+ghost use Rattle.std.specs.Prelude.{◌≡◌, ◌+◌, ◌^◌, true, IfOk, option_map};
+ghost use Rattle.job_store.specs.Entries.{Rising};
 ghost use Rattle.session_store.specs.Fronts.{AreFronts};
 ghost use Rattle.session_store.specs.LateLines.{HasLate};
 ghost use Rattle.bean_queue.specs.Turns.{next_job, serve_turn, deadline_turn, timeout_turn, all_turns};
 ghost use Rattle.bean_queue.specs.Calls.{DraftsOutcome, DraftsTurn};
 ghost use Rattle.bean_queue.specs.Woken.{Covers};
+ghost use Rattle.bean_queue.specs.Offers.{OffersJobsOf};
 ghost use Rattle.bean_queue.specs.Holders.{HasHolders};
 
 use crate::deadlines::{first_holder, holders_by};
 use crate::logic::Logic;
-use crate::waiting::best_offer;
+use crate::offers::{Offers, offers_of};
 use bean_words::{Name, Reply};
 use job_store::{Job, JobMap, Mark, State};
 use object::{Answer, Key, Value};
@@ -16,31 +18,56 @@ use session_store::{Fronts, LateLine};
 use std::alloc::{AllocError, Global};
 
 impl<M: JobMap> Logic<M> {
-    /// Of the best jobs of all waiting sessions, the most urgent. It is looked for in these tubes alone.
-    fn next_job(&self, woken: &[Name], fronts: &mut Fronts) -> Option<(u64, &Job)>
+    /// What these tubes offer, while the sessions that wait now are served.
+    fn offers(
+        &self,
+        alloc: Global,
+        woken: &[Name],
+        fronts: &mut Fronts,
+    ) -> Result<Offers, AllocError>
         requires covers { Covers woken.now self.now.now }
         requires fronts { AreFronts fronts.old self.now.now.sessions }
-        ensures best { option_map (λ e. (e.0, e.1.now)) result ≡ next_job self.now.now }
+        ensures offers { IfOk result (λ offers. OffersJobsOf offers self.now.now) }
         ensures fronts { AreFronts fronts.new self.now.now.sessions }
     {
-        best_offer(self.jobs.map(), &self.sessions, &self.pauses, woken, fronts)
+        offers_of(
+            alloc,
+            self.jobs.map(),
+            &self.sessions,
+            &self.pauses,
+            woken,
+            fronts,
+        )
     }
 
-    /// Gives the next job to the session whose turn it is, and tells whether there was one. It is in one of these
-    /// tubes.
+    /// Of the best jobs of all waiting sessions, the most urgent. It is the most urgent offer that has a taker.
+    fn next_job(&self, offers: &mut Offers, fronts: &mut Fronts) -> Option<(u64, &Job)>
+        requires offers { OffersJobsOf offers.old self.now.now }
+        requires fronts { AreFronts fronts.old self.now.now.sessions }
+        ensures best { option_map (λ e. (e.0, e.1.now)) result ≡ next_job self.now.now }
+        ensures ids_rise { Rising 0 (2 ^ 64) self.now.now.jobs }
+        ensures offers { OffersJobsOf offers.new self.now.now }
+        ensures fronts { AreFronts fronts.new self.now.now.sessions }
+    {
+        offers.next(self.jobs.map(), &self.sessions, &self.pauses, fronts)
+    }
+
+    /// Gives the next job to the session whose turn it is, and tells whether there was one. Then the next ready job of its
+    /// tube is offered.
     fn serve_one(
         &mut self,
-        woken: &[Name],
+        offers: &mut Offers,
         fronts: &mut Fronts,
         answers: &mut Vec<Answer<Reply>>,
     ) -> Result<bool, AllocError>
-        requires covers { Covers woken.now self.old.now }
+        requires offers { OffersJobsOf offers.old self.old.now }
         requires fronts { AreFronts fronts.old self.old.now.sessions }
         ensures turn { DraftsTurn serve_turn self.old self.new answers.old.items answers.new.items
             result }
+        ensures offers { IfOk result (λ more. OffersJobsOf offers.new self.new.now) }
         ensures fronts { IfOk result (λ more. AreFronts fronts.new self.new.now.sessions) }
     {
-        let Some((id, job)) = self.next_job(woken, fronts) else {
+        let Some((id, job)) = self.next_job(offers, fronts) else {
             return Ok(false);
         };
         let Some((session, watcher)) = self.sessions.next_watcher(&job.tube, fronts) else {
@@ -50,6 +77,7 @@ impl<M: JobMap> Logic<M> {
             session,
             number: watcher.wait_number(),
         };
+        let place = (job.pri, id);
         let due = self.counters.now + u64::from(job.ttr);
         let body = job.body.copy()?;
         answers.push(Answer {
@@ -59,6 +87,7 @@ impl<M: JobMap> Logic<M> {
         let state = State::Reserved { session, due };
         self.jobs.set_state(id, state, Mark::Reserved)?;
         self.sessions.set_wait(session, None)?;
+        offers.replace(self.jobs.map(), place)?;
         Ok(true)
     }
 
@@ -73,7 +102,8 @@ impl<M: JobMap> Logic<M> {
             (all_turns serve_turn self.old.now) result }
     {
         let mut fronts = self.sessions.fronts();
-        'turns: while self.serve_one(woken, &mut fronts, answers)? {}
+        let mut offers = self.offers(*answers.allocator(), woken, &mut fronts)?;
+        'turns: while self.serve_one(&mut offers, &mut fronts, answers)? {}
         Ok(())
     }
 

@@ -92,12 +92,13 @@ impl<M: JobMap> Logic<M> {
         }
     }
 
-    /// Tells how many jobs and sessions there are, and how often each operation was carried out.
+    /// Tells how many jobs, tubes and sessions there are, and how often each operation was carried out. There are so
+    /// many tubes.
     #[tactic(auto, unfolding(crate::specs::Reports::queue_report))]
-    pub fn stats(&self, alloc: Global) -> Result<Reply, AllocError>
+    pub fn stats(&self, alloc: Global, tubes: u64) -> Result<Reply, AllocError>
+        requires { tubes ≡ length (all_tubes self.now.now) }
         ensures { IfOk result (λ reply. reply ≡ Reply.Data (queue_report self.now.now)) }
     {
-        let tubes = self.tube_names(alloc)?.len() as u64;
         let mut report = Report::new(alloc)?;
         report.tally(self.jobs.map().tally_all())?;
         report.job_counts(&self.counters.counts)?;

@@ -10,10 +10,10 @@ pub returns : goal.returns
 returns g c = record {
   state = on_ok_weaker c.quiet_row.result
       (quiet-state c.args.op.now c.args.key c.args.self.now.now c.call.new.self.now c.quiet_row.new.self.now
-      c.requires.kind c.requires.calm c.in_ok-call.ensures.now)
+      c.requires.can.kind c.requires.can.calm c.in_ok-call.ensures.now)
       c.quiet_row.ensures.state;
   reply = IfOk-weaker c.quiet_row.result _ _
-      (λ reply. quiet-reply c.args.op.now c.args.key c.args.self.now.now c.call.new.self.now reply c.requires.kind c.requires.calm c.in_ok-call.ensures.now)
+      (λ reply. quiet-reply c.args.op.now c.args.key c.args.self.now.now c.call.new.self.now reply c.requires.can.kind c.requires.can.calm c.in_ok-call.ensures.now)
       c.quiet_row.ensures.reply;
   err = on_err_weaker c.quiet_row.result (λ e. e ∙ c.call.ensures.before) c.quiet_row.ensures.err;
 }

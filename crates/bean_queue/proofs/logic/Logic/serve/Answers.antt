@@ -1,7 +1,6 @@
 use Rattle.std.proofs.Common.{◌∙◌}
 use Rattle.bean_queue.specs.Turns.{serve_turn}
 use Rattle.bean_queue.proofs.best.Served.{serves, turn_made, no_turn}
-use Rattle.bean_queue.proofs.calm.Woken.{covers-turn}
 use Rattle.bean_queue.proofs.logic.Logic.serve.Goals as goal
 
 pub turns-smaller : goal.turns-smaller
@@ -11,7 +10,7 @@ pub turns-preserved : goal.turns-preserved
 turns-preserved g c =
     let r = turn_made serve_turn serves _ _ _ _ c.in_ok-serve_one.field-0 c.if-branch.true c.in_ok-serve_one.ensures.turn.turn in
     record {
-      covers = covers-turn c.args.woken.now c.turns.self.now _ _ _ _ c.in_ok-serve_one.ensures.turn.turn c.turns.invariant.covers;
+      offers = c.in_ok-serve_one.ensures.offers;
       fronts = c.in_ok-serve_one.ensures.fronts;
       state = r.state ∙ c.turns.invariant.state;
       answers = r.answers ∙ c.turns.invariant.answers;

@@ -1,13 +1,13 @@
 use Rattle.std.proofs.Common.{◌≡◌, ◌++◌}
 use Rattle.session_store.specs.Fronts.{AreFronts}
 use Rattle.bean_queue.specs.Turns.{serve_turn, all_turns}
-use Rattle.bean_queue.specs.Woken.{Covers}
+use Rattle.bean_queue.specs.Offers.{OffersJobsOf}
 use Rattle.bean_queue.proofs.best.Served.{waiters}
 use Rattle.bean_queue.proofs.logic.Logic.serve.Given as goal
 
 abbrev pub invariant-turns : goal.invariant-turns
 invariant-turns g l = record {
-  covers : Covers l.woken l.self.now;
+  offers : OffersJobsOf l.offers l.self.now;
   fronts : AreFronts l.fronts l.self.now.sessions;
   state : (all_turns serve_turn l.self.now).state ≡ (all_turns serve_turn l.fn.self.now).state;
   answers : l.answers.items ++ (all_turns serve_turn l.self.now).answers ≡ l.fn.answers.items ++ (all_turns serve_turn l.fn.self.now).answers;

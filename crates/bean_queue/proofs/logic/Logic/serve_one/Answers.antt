@@ -1,6 +1,6 @@
-use Rattle.std.proofs.Common.{◌≡◌, ◌∙◌, ℕ, ◌+◌, true, ◌∷◌, [], ◌++◌, Some, None, rules, refl, sym, ap, ap₂, subst}
+use Rattle.std.proofs.Common.{◌≡◌, ◌∙◌, ℕ, ◌+◌, ◌^◌, true, ◌∷◌, [], ◌++◌, Some, None, rules, refl, sym, ap, ap₂, subst}
 use Rattle.job_store.specs.declared.job.Job.{Job}
-use Rattle.job_store.specs.Entries.{altered}
+use Rattle.job_store.specs.Entries.{Rising, altered}
 use Rattle.job_store.specs.States.{reserved_job}
 use Rattle.object.specs.declared.command.Answer.{Answer}
 use Rattle.session_store.specs.declared.session.SessionState.{SessionState}
@@ -12,6 +12,8 @@ use Rattle.bean_words.specs.declared.reply.Reply.{Reply}
 use Rattle.job_store.specs.LookUps.{is_among}
 use Rattle.bean_queue.specs.Queue.{QueueState, state_of}
 use Rattle.bean_queue.specs.Turns.{IsTurn, next_job, serve_turn}
+use Rattle.bean_queue.specs.Offers.{OffersJobsOf}
+use Rattle.bean_queue.proofs.best.Offering.{served-offers}
 use Rattle.bean_queue.proofs.best.Turned.{none-served, nobody-served, served}
 use Rattle.bean_queue.proofs.logic.Logic.serve_one.Goals as goal
 
@@ -60,3 +62,14 @@ pub returns-clause-fronts : goal.returns-clause-fronts
 returns-clause-fronts g c =
     subst (AreFronts c.next_watcher.new.fronts) (sym c.in_ok-set_wait.ensures.now)
     (fronts-ended c.in-Some-next_watcher.session c.self.inside.sessions.now c.next_watcher.new.fronts c.next_watcher.ensures.fronts)
+
+pub returns-clause-offers : goal.returns-clause-offers
+returns-clause-offers g c =
+    let s = state_of c.self.inside.counters c.self.inside.jobs.now c.self.inside.sessions.now c.self.inside.pauses.now.pauses c.self.inside.tubes.now in
+    let e : ℕ × Job = (c.in-Some.id, c.in-Some.job.now) in
+    served-offers s c.next_job.new.offers c.replace.new.self e c.in-Some-next_watcher.session _ _
+    c.set_state.new.self.now _ c.set_wait.new.self.now
+    (subst (λ (d : Draft QueueState). Rising 0 (2 ^ 64) d.now.jobs) (sym c.self.view_is) c.next_job.ensures.ids_rise)
+    (subst (λ (d : Draft QueueState). OffersJobsOf c.next_job.new.offers d.now) (sym c.self.view_is) c.next_job.ensures.offers)
+    (ap (λ (d : Draft QueueState). next_job d.now) c.self.view_is ∙ sym c.in-Some.ensures.best)
+    c.in_ok-set_state.ensures.now c.in_ok-set_wait.ensures.now c.map.ensures.jobs c.in_ok-replace.ensures

@@ -22,7 +22,9 @@ returns g c =
 
 pub invariant_of-self-2 : goal.invariant_of-self-2
 invariant_of-self-2 g c =
+    let kept =
     kept-calm _ _ _ _ (tick-calm c.args.second c.self.inside.logic.now c.self.invariant.1)
     (ticked c.self.inside.logic.now c.pass.new.self.now c.settle_all.new.self.now c.args.second c.has_come.result c.in-Ok.over.keys c.as_slice.result.now
     c.has_come.ensures c.if-has_come.false c.in-Ok.ensures.passed.state c.in-Ok.ensures.over c.as_slice.ensures.keys c.settle_all.ensures)
-    c.keep.ensures.now c.keep.ensures.before
+    c.keep.ensures.now c.keep.ensures.before in
+    (kept.0, kept.1, tt)
