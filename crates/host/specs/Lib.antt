@@ -1,0 +1,5 @@
+pub mod Left
+pub mod Views
+pub mod Receiving
+pub mod Hearing
+pub mod Steps
