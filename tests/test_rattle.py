@@ -61,6 +61,10 @@ class Layers(Case):
         """Nodes, worlds, halls, sessions, logs and clusters of threads do what was worked out by hand, case by case."""
         self.run_tests("test_layers")
 
+    def test_hosts(self):
+        """Hosts whose letters are lost, repeated and reordered answer by one order, as worked out and in drawn courses."""
+        self.run_tests("test_host")
+
     def test_drawn_inputs(self):
         """Whatever bytes a client sends, whole and in pieces, it is told the same, and whole replies that may come."""
         told = self.try_crate("test_fuzz", *QUICK, "--", FIRST_SEED, SEEDS)
