@@ -62,7 +62,7 @@ class Layers(Case):
         self.run_tests("test_layers")
 
     def test_hosts(self):
-        """Hosts whose letters are lost, repeated and reordered answer by one order, as worked out and in drawn courses."""
+        """Hosts whose letters are lost, repeated and reordered answer by one order, as worked out and as drawn."""
         self.run_tests("test_host")
 
     def test_drawn_inputs(self):

@@ -1,20 +1,19 @@
 -- What a node received of a body, whatever was sent before; and what comes of an envelope by that.
-use Rattle.std.proofs.Common.{◌≡◌, Bool, true, false, cond, ℕ, ◌<◌, ◌≤◌, ◌+◌, List, [], ◌∷◌, ◌++◌, length, drop}
+use Rattle.std.proofs.Common.{◌≡◌, false, ℕ, ◌<◌, ◌≤◌, ◌+◌, List, [], ◌∷◌, ◌++◌, length, drop}
 use Rattle.std.proofs.Common.{Option, None, Some, is_none, refl, sym, ap, ◌∙◌, subst, arith}
-use Rattle.std.specs.Prelude.{nat_le, slice_index_or}
+use Rattle.std.specs.Prelude.{slice_index_or}
 use Rattle.std.proofs.lemmas.List.{append_cancel_left}
 use Rattle.object.specs.declared.command.Command.{Command}
 use Rattle.ballot.specs.Rests.{rest_of_body}
 use Rattle.ballot.specs.declared.letter.Letter.{Letter}
 use Rattle.ballot.specs.declared.letter.LetterBody.{LetterBody}
-use Rattle.ballot.specs.declared.letter.LetterBody.TheVariants.{P1a, P1b, P2a, P2b, Propose, Decision, Ask}
 use Rattle.acceptor.proofs.Kept.{report_of_all}
 use Rattle.node.specs.Holding.{Holding}
 use Rattle.node.specs.Nodes.{NodeState}
 use Rattle.node.specs.Receiving.{ShowsNode, ShowsReceived}
 use Rattle.cluster.specs.Envelopes.{Envelope, IsLegible}
 use Rattle.host.specs.Hearing.{Votes, VotesOn, further}
-use Rattle.host.specs.Receiving.{AsksForVote, Comes, ComesOf}
+use Rattle.host.specs.Receiving.{Comes, ComesOf}
 use Rattle.host.specs.Views.{HostView}
 use Rattle.host.specs.declared.receipt.Receipt.{Receipt}
 use Rattle.host.specs.declared.receipt.Receipt.TheVariants as receipts
@@ -93,18 +92,3 @@ pub voted_more : {Op O : Type 0} (upto : ℕ) (h y z : HostView Op O) (before no
 voted_more upto h y z before now after None e run c n low = absurd (cc)
 voted_more upto h y z before now after (Some r) e run c n low =
     (further r z after run c, let more = c.3 in omega (arith, low, more))
-
--- of what asks for a vote all is left, or nothing
-whole_if : {X : Type 0} (b : Bool) (x : X) → is_none (cond b (Some x) None) ≡ false → cond b (Some x) None ≡ Some x
-whole_if true x e = refl
-whole_if false x e = absurd (cc)
-
-pub asked_whole : {C : Type 0} (base : ℕ) (body : LetterBody C) → AsksForVote body
-    → is_none (rest_of_body base body) ≡ false → rest_of_body base body ≡ Some body
-asked_whole base (P1a b) asks e = refl
-asked_whole base (P1b b report) asks e = absurd asks
-asked_whole base (P2a p) asks e = whole_if (nat_le base p.slot) (P2a p) e
-asked_whole base (P2b o s b) asks e = absurd asks
-asked_whole base (Propose s c) asks e = absurd asks
-asked_whole base (Decision s c) asks e = absurd asks
-asked_whole base (Ask s) asks e = absurd asks

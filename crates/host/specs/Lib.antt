@@ -1,4 +1,6 @@
 pub mod Left
+pub mod Deeds
+pub mod Outboxes
 pub mod Views
 pub mod Receiving
 pub mod Hearing

@@ -1,11 +1,9 @@
 -- A host, and the letters to it that ask for a vote and wait until their records are kept (Paxos Made Moderately
 -- Complex, 4.3: what an acceptor promises and accepts is kept on disk before it answers).
-use Rattle.std.specs.Prelude.{ℕ, ⊤, Bool, true, List, []}
+use Rattle.std.specs.Prelude.{ℕ, List, []}
 use Rattle.object.specs.Objects.{Rules}
-use Rattle.object.specs.OnceOnly.{Filtered, is_later}
 use Rattle.object.specs.declared.command.Command.{Command}
 use Rattle.node.specs.declared.deed.Deed.{Deed}
-use Rattle.node.specs.declared.deed.Deed.TheVariants as deeds
 use Rattle.cluster.specs.Envelopes.{Envelope}
 use Rattle.cluster.specs.Hosts.{HostState, new_host, host_turn, with_holding, forgotten_host}
 
@@ -18,24 +16,6 @@ pub record HostView (Op O : Type 0) : Type 0 where
 -- node n of these members, before anything happened
 abbrev pub new_view : {O Op Reply : Type 0} → Rules O Op Reply → List ℕ → ℕ → HostView Op O
 new_view rules members n = record { shown = new_host rules members n; aside = []; voted = 0 }
-
--- a host never begins anew: a new process does
-abbrev pub IsNoRestart : {Op : Type 0} → Deed Op → Type 0
-IsNoRestart (deeds.Request c) = ⊤
-IsNoRestart deeds.Wake = ⊤
-IsNoRestart deeds.Nudge = ⊤
-IsNoRestart deeds.Propose = ⊤
-IsNoRestart deeds.Perform = ⊤
-IsNoRestart deeds.Restart = ⊥
-
--- the filter lets the command through that is asked for
-abbrev pub is_let_through : {Op O : Type 0} → Filtered O → Deed Op → Bool
-is_let_through f (deeds.Request c) = is_later c.key f.latest
-is_let_through f deeds.Wake = true
-is_let_through f deeds.Nudge = true
-is_let_through f deeds.Propose = true
-is_let_through f deeds.Perform = true
-is_let_through f deeds.Restart = true
 
 -- it does this by itself
 abbrev pub acted_view : {O Op Reply : Type 0} → Rules O Op Reply → HostView Op O → Deed Op → HostView Op O

@@ -5,15 +5,19 @@ ghost use Rattle.ballot.specs.Members.{is_member};
 ghost use Rattle.node.specs.Deeds.{ComesToNothing};
 ghost use Rattle.node.specs.Holding.{outcome_held};
 ghost use Rattle.cluster.specs.Hosts.{host_turn};
+ghost use Rattle.host.specs.Deeds.{deed_of, is_let_through};
+ghost use Rattle.host.specs.Outboxes.{sent_on};
 ghost use Rattle.host.specs.Hearing.{Hears, Votes, VotesOn};
-ghost use Rattle.host.specs.Views.{IsNoRestart, new_view, is_let_through, acted_view, forgotten_view};
+ghost use Rattle.host.specs.Views.{new_view, acted_view, forgotten_view};
 
 use crate::envelope::Envelope;
+use crate::host_deed::HostDeed;
 use crate::kept::Kept;
+use crate::outbox::Outbox;
 use crate::receipt::Receipt;
 use crate::receiving::{asks_for_vote, is_forgotten, receive_left};
 use ballot::{Letter, Members};
-use node::{Deed, LeanNode, Outcome};
+use node::{LeanNode, Outcome};
 use object::{Answer, Command, Object};
 use std::alloc::{AllocError, Global};
 use std::collections::VecDeque;
@@ -42,7 +46,11 @@ impl<O: Object> Model for Host<O> {
 
     ghost coded = { Prim.hlevel (codes, slots_code, latest_code, O.code, O.Op.code) };
 
-    ghost view = { λ h. record { shown = record { base = h.base; holding = h.node }; aside = h.aside.items; voted = h.voted } };
+    ghost view = { λ h. record {
+      shown = record { base = h.base; holding = h.node };
+      aside = h.aside.items;
+      voted = h.voted;
+    } };
 }
 
 impl<O: Object> Host<O> {
@@ -80,6 +88,13 @@ impl<O: Object> Host<O> {
         self.node.slots().slot_out()
     }
 
+    /// A place for what it sends while it keeps its base.
+    pub fn outbox(&self, alloc: Global) -> Outbox<Command<O::Op>>
+        ensures { result ≡ record { base = self.now.shown.base; letters = [] } }
+    {
+        Outbox::new(alloc, self.base)
+    }
+
     /// How many of the letters that asked for a vote are received.
     pub fn voted(&self) -> u64
         ensures { result ≡ self.now.voted }
@@ -99,31 +114,34 @@ impl<O: Object> Host<O> {
     /// answers that it gives.
     pub fn act(
         &mut self,
-        deed: Deed<O::Op>,
-        sent: &mut Letters<O>,
+        deed: HostDeed<O::Op>,
+        sent: &mut Outbox<Command<O::Op>>,
         answers: &mut Vec<Answer<O::Reply>>,
     ) -> Result<Outcome, AllocError>
-        requires { IsNoRestart deed }
-        ensures state { Becomes result self.old self.new (acted_view O.rules self.old deed) }
-        ensures sent { AddsAtEnd result sent.old sent.new (host_turn O.rules self.old.shown deed).sent }
+        requires { sent.old.base ≡ self.old.shown.base }
+        ensures state { Becomes result self.old self.new
+            (acted_view O.rules self.old (deed_of deed)) }
+        ensures sent { Becomes result sent.old sent.new
+            (sent_on sent.old (host_turn O.rules self.old.shown (deed_of deed)).sent) }
         ensures answers { AddsAtEnd result answers.old answers.new
-            (host_turn O.rules self.old.shown deed).answers }
+            (host_turn O.rules self.old.shown (deed_of deed)).answers }
         ensures outcome { IfOk result (λ outcome. outcome
-            ≡ outcome_held self.old.shown.holding deed) }
-        ensures idle { ComesToNothing O.rules self.old.shown.holding.state deed → IsOk result }
+            ≡ outcome_held self.old.shown.holding (deed_of deed)) }
+        ensures idle { ComesToNothing O.rules self.old.shown.holding.state (deed_of deed) →
+            IsOk result }
     {
         if !self.lets_through(&deed) {
             return Ok(Outcome::Done);
         }
-        self.node.act(deed, sent, answers)
+        self.node.act(deed.deed(), &mut sent.letters, answers)
     }
 
     // Whether the object's filter lets the command through that is asked for.
-    fn lets_through(&self, deed: &Deed<O::Op>) -> bool
+    fn lets_through(&self, deed: &HostDeed<O::Op>) -> bool
         ensures { result ≡ is_let_through self.now.shown.holding.object deed.now }
     {
         match deed {
-            Deed::Request(command) => self.node.lets_through(command.key()),
+            HostDeed::Request(command) => self.node.lets_through(command.key()),
             _ => true,
         }
     }
@@ -131,6 +149,21 @@ impl<O: Object> Host<O> {
     /// Receives what an envelope says of the slots that are kept, and appends what it sends; but what asks for a vote
     /// is put aside. What it can't read, what speaks of forgotten slots alone, and what doesn't fit is left out.
     pub fn receive(
+        &mut self,
+        envelope: Envelope<Command<O::Op>>,
+        sent: &mut Outbox<Command<O::Op>>,
+    ) -> Result<Receipt, AllocError>
+        requires { sent.old.base ≡ self.old.shown.base }
+        ensures ok { IfOk result (λ receipt.
+            Hears receipt self.old envelope self.new sent.old.letters sent.new.letters) }
+        ensures base { sent.new.base ≡ sent.old.base }
+        ensures err { OnErr result ((self.new ≡ self.old) × (sent.new ≡ sent.old)) }
+    {
+        self.hear(envelope, &mut sent.letters)
+    }
+
+    // Receives an envelope, or puts it aside, or leaves it out.
+    fn hear(
         &mut self,
         envelope: Envelope<Command<O::Op>>,
         sent: &mut Letters<O>,
@@ -151,7 +184,17 @@ impl<O: Object> Host<O> {
 
     /// Receives what was put aside, in order, as far as the records are kept, and appends the votes. Where memory is
     /// refused, the rest stays aside, with what was refused.
-    pub fn vote(&mut self, kept: Kept, sent: &mut Letters<O>) -> Result<(), AllocError>
+    pub fn vote(&mut self, kept: Kept, sent: &mut Outbox<Command<O::Op>>) -> Result<(), AllocError>
+        requires { sent.old.base ≡ self.old.shown.base }
+        ensures votes { VotesOn kept self.old sent.old.letters self.new sent.new.letters }
+        ensures all { OnOk result ((self.new.aside ≡ []) ⊎ (kept ≤ self.new.voted)) }
+        ensures base { sent.new.base ≡ sent.old.base }
+    {
+        self.vote_on(kept, &mut sent.letters)
+    }
+
+    // Receives what was put aside, as far as the records are kept.
+    fn vote_on(&mut self, kept: Kept, sent: &mut Letters<O>) -> Result<(), AllocError>
         ensures votes { VotesOn kept self.old sent.old.items self.new sent.new.items }
         ensures all { OnOk result ((self.new.aside ≡ []) ⊎ (kept ≤ self.new.voted)) }
     {

@@ -61,7 +61,8 @@ pub fn calls_are_steps<O: Object>()
         (before now : List (Letter (Command O.Op))) (k : Hosts O.Op O O.Reply) →
         AreHosts O.rules owner members k → IsHostOf h n k → VotesOn upto h before z now →
         LeadsTo O.rules owner members h.shown.base n z before now k }
-    ensures forgets { (owner : ℕ → ℕ) (h : HostView O.Op O) (n base : ℕ) (k : Hosts O.Op O O.Reply) →
+    ensures forgets { (owner : ℕ → ℕ) (h : HostView O.Op O) (n base : ℕ)
+        (k : Hosts O.Op O O.Reply) →
         IsHostOf h n k → h.shown.base ≤ base → base ≤ h.shown.holding.state.replica.slot_out →
         StepsTo O.rules owner n (forgotten_view base h) k
         (record k { host = with_at k.host n (forgotten_host base (k.host n)) }) }

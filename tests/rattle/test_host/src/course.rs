@@ -1,9 +1,9 @@
 //! Hosts at a register, each with a journal, and what is on its way between them.
 use crate::draws::Draws;
 use crate::seen::{SESSIONS, Seen, command};
-use ballot::{Letter, Members};
-use host::{Account, Envelope, Host, Receipt};
-use node::{Deed, Outcome};
+use ballot::Members;
+use host::{Account, Envelope, Host, HostDeed, Outbox, Receipt};
+use node::Outcome;
 use object::{Command, Key, Register, RegisterOp, Value};
 use std::alloc::Global;
 use std::test::Fail;
@@ -62,10 +62,10 @@ impl Course {
         let place = draws.place(self.hosts.len());
         match draws.below(32) {
             0..3 => self.ask(place, draws),
-            3 => self.act(place, Deed::Wake),
-            4 => self.act(place, Deed::Nudge),
-            5..8 => self.act(place, Deed::Propose),
-            8..11 => self.act(place, Deed::Perform),
+            3 => self.act(place, HostDeed::Wake),
+            4 => self.act(place, HostDeed::Nudge),
+            5..8 => self.act(place, HostDeed::Propose),
+            8..11 => self.act(place, HostDeed::Perform),
             11..25 => self.deliver(draws),
             25 => self.lose(draws),
             26..28 => self.repeat(draws),
@@ -94,29 +94,28 @@ impl Course {
             session: session as u32 + 1,
             number,
         };
-        self.act(place, Deed::Request(command(key)?))
+        self.act(place, HostDeed::Request(command(key)?))
     }
 
     /// A host does this by itself.
-    fn act(&mut self, place: usize, deed: Deed<RegisterOp>) -> Result<(), Fail> {
-        let mut sent = Vec::new(self.alloc);
+    fn act(&mut self, place: usize, deed: HostDeed<RegisterOp>) -> Result<(), Fail> {
+        let mut sent = self.hosts[place].outbox(self.alloc);
         let outcome = self.hosts[place].act(deed, &mut sent, &mut self.seen.answers)?;
         if let Outcome::Performed(performed) = outcome {
             if !self.seen.perform(place, performed.slot, performed.key)? {
                 return self.fail("a slot is left out");
             }
         }
-        self.send(place, sent)
+        self.send(sent)
     }
 
-    /// A host's letters go on their way, under its base.
-    fn send(&mut self, place: usize, sent: Vec<Letter<Command<RegisterOp>>>) -> Result<(), Fail> {
-        let label = self.hosts[place].base();
-        for letter in sent {
-            if !self.seen.hear(&letter.body)? {
+    /// What a host sends goes on its way.
+    fn send(&mut self, sent: Outbox<Command<RegisterOp>>) -> Result<(), Fail> {
+        for envelope in sent.into_envelopes()? {
+            if !self.seen.hear(&envelope.letter().body)? {
                 return self.fail("a slot has two decisions");
             }
-            self.under_way.push(Envelope::new(label, letter))?;
+            self.under_way.push(envelope)?;
         }
         Ok(())
     }
@@ -133,11 +132,11 @@ impl Course {
     fn receive(&mut self, which: usize) -> Result<(), Fail> {
         let envelope = self.under_way.remove(which);
         let place = usize::from(envelope.letter().to - 1);
-        let mut sent = Vec::new(self.alloc);
+        let mut sent = self.hosts[place].outbox(self.alloc);
         if self.hosts[place].receive(envelope, &mut sent)? == Receipt::Unfit {
             return self.fail("a letter is unfit");
         }
-        self.send(place, sent)
+        self.send(sent)
     }
 
     fn lose(&mut self, draws: &mut Draws) -> Result<(), Fail> {
@@ -178,9 +177,9 @@ impl Course {
     fn vote(&mut self, place: usize) -> Result<(), Fail> {
         let written = self.accounts[place].written();
         let kept = self.accounts[place].keep(written);
-        let mut sent = Vec::new(self.alloc);
+        let mut sent = self.hosts[place].outbox(self.alloc);
         self.hosts[place].vote(kept, &mut sent)?;
-        self.send(place, sent)
+        self.send(sent)
     }
 
     /// A host forgets some of what it performed.
@@ -204,8 +203,8 @@ impl Course {
         }
     }
 
-    /// What was lost comes after all, and nothing more is lost: a host whose base is the highest, so that it can read what
-    /// all others report, is asked for a last command, and answers it.
+    /// What was lost comes after all, and nothing more is lost: a host whose base is the highest, so that it can read
+    /// what all others report, is asked for a last command, and answers it.
     pub fn settle(&mut self) -> Result<(), Fail> {
         for envelope in std::mem::replace(&mut self.lost, Vec::new(self.alloc)) {
             self.under_way.push(envelope)?;
@@ -215,7 +214,7 @@ impl Course {
             session: 1,
             number: self.numbers[0] + 1,
         };
-        self.act(place, Deed::Request(command(key)?))?;
+        self.act(place, HostDeed::Request(command(key)?))?;
         for _ in 0..ROUNDS {
             if self.seen.has_answer(key) {
                 return Ok(());
@@ -238,9 +237,9 @@ impl Course {
 
     /// One host leads, all that is under way comes, and all vote.
     fn round(&mut self, leader: usize) -> Result<(), Fail> {
-        self.act(leader, Deed::Wake)?;
-        self.act(leader, Deed::Nudge)?;
-        self.act(leader, Deed::Propose)?;
+        self.act(leader, HostDeed::Wake)?;
+        self.act(leader, HostDeed::Nudge)?;
+        self.act(leader, HostDeed::Propose)?;
         for _ in 0..self.under_way.len() {
             self.receive(0)?;
         }
@@ -249,7 +248,7 @@ impl Course {
             self.vote(place)?;
         }
         for _ in 0..PERFORMED {
-            self.act(leader, Deed::Perform)?;
+            self.act(leader, HostDeed::Perform)?;
         }
         Ok(())
     }

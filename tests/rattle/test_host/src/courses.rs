@@ -1,5 +1,5 @@
-//! Courses of one, three and five hosts, as seeds draw them: letters are lost, come again and come in any order, records
-//! are kept late, and slots are forgotten. All that is seen comes of one order.
+//! Courses of one, three and five hosts, as seeds draw them: letters are lost, come again and come in any order,
+//! records are kept late, and slots are forgotten. All that is seen comes of one order.
 use crate::course::Course;
 use crate::draws::Draws;
 use std::alloc::Global;

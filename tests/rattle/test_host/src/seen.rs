@@ -67,8 +67,8 @@ impl Seen {
         self.answers.iter().any(|answer| answer.to == key)
     }
 
-    /// What is wrong, if anything is: each host performed a beginning of the order, and each answer is one of a register
-    /// that obeys it.
+    /// What is wrong, if anything is: each host performed a beginning of the order, and each answer is one of a
+    /// register that obeys it.
     pub fn fault(&self, alloc: Global) -> Result<Option<&'static str>, Fail> {
         let order = self.order(alloc)?;
         for performed in &self.performed {

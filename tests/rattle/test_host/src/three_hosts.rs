@@ -1,7 +1,6 @@
 //! Three hosts decide a command, one of them forgets its slot, and another can't read that one's report then.
-use ballot::{Letter, Members};
-use host::{Account, Envelope, Host, Receipt};
-use node::Deed;
+use ballot::Members;
+use host::{Account, Envelope, Host, HostDeed, Outbox, Receipt};
 use object::{Act, Answer, Command, Key, Register, RegisterOp, RegisterReply};
 use std::alloc::Global;
 use std::test::Fail;
@@ -15,13 +14,13 @@ struct Counts {
     others: usize,
 }
 
-/// The hosts, the letters that come next, and the answers.
+/// The hosts, what comes to them next, and the answers.
 #[derive(Drop)]
 struct Three {
     alloc: Global,
     hosts: Vec<Host<Register>>,
     accounts: Vec<Account>,
-    sent: Vec<Letter<Command<RegisterOp>>>,
+    sent: Vec<Envelope<Command<RegisterOp>>>,
     answers: Vec<Answer<RegisterReply>>,
     counts: Counts,
 }
@@ -50,35 +49,43 @@ impl Three {
         })
     }
 
-    fn act(&mut self, place: usize, deed: Deed<RegisterOp>) -> Result<(), Fail> {
-        self.hosts[place].act(deed, &mut self.sent, &mut self.answers)?;
+    fn act(&mut self, place: usize, deed: HostDeed<RegisterOp>) -> Result<(), Fail> {
+        let mut sent = self.hosts[place].outbox(self.alloc);
+        self.hosts[place].act(deed, &mut sent, &mut self.answers)?;
+        self.send(sent)
+    }
+
+    fn send(&mut self, sent: Outbox<Command<RegisterOp>>) -> Result<(), Fail> {
+        for envelope in sent.into_envelopes()? {
+            self.sent.push(envelope)?;
+        }
         Ok(())
     }
 
     /// All that was sent comes, in order, and each host votes, proposes and performs.
     fn turn(&mut self) -> Result<(), Fail> {
-        let letters = std::mem::replace(&mut self.sent, Vec::new(self.alloc));
-        for letter in letters {
-            self.receive(letter)?;
+        let envelopes = std::mem::replace(&mut self.sent, Vec::new(self.alloc));
+        for envelope in envelopes {
+            self.receive(envelope)?;
         }
         for place in 0..self.hosts.len() {
             self.vote(place)?;
-            self.act(place, Deed::Propose)?;
-            self.act(place, Deed::Perform)?;
+            self.act(place, HostDeed::Propose)?;
+            self.act(place, HostDeed::Perform)?;
         }
         Ok(())
     }
 
-    fn receive(&mut self, letter: Letter<Command<RegisterOp>>) -> Result<(), Fail> {
-        let label = self.hosts[usize::from(letter.from - 1)].base();
-        let to = usize::from(letter.to - 1);
-        match self.hosts[to].receive(Envelope::new(label, letter), &mut self.sent)? {
+    fn receive(&mut self, envelope: Envelope<Command<RegisterOp>>) -> Result<(), Fail> {
+        let to = usize::from(envelope.letter().to - 1);
+        let mut sent = self.hosts[to].outbox(self.alloc);
+        match self.hosts[to].receive(envelope, &mut sent)? {
             Receipt::Received => self.counts.received += 1,
             Receipt::Aside => self.counts.aside += 1,
             Receipt::Illegible => self.counts.illegible += 1,
             _ => self.counts.others += 1,
         }
-        Ok(())
+        self.send(sent)
     }
 
     /// A host's journal writes and keeps at most 20 records, and the host votes.
@@ -91,8 +98,9 @@ impl Three {
         }
         let written = self.accounts[place].written();
         let kept = self.accounts[place].keep(written);
-        self.hosts[place].vote(kept, &mut self.sent)?;
-        Ok(())
+        let mut sent = self.hosts[place].outbox(self.alloc);
+        self.hosts[place].vote(kept, &mut sent)?;
+        self.send(sent)
     }
 }
 
@@ -108,8 +116,8 @@ fn write() -> Result<Command<RegisterOp>, Fail> {
 /// Three hosts that have performed the write in slot 1, as each tells.
 fn decided(alloc: Global) -> Result<Three, Fail> {
     let mut three = Three::new(alloc)?;
-    three.act(0, Deed::Wake)?;
-    three.act(0, Deed::Request(write()?))?;
+    three.act(0, HostDeed::Wake)?;
+    three.act(0, HostDeed::Request(write()?))?;
     for _ in 0..12 {
         three.turn()?;
     }
@@ -137,8 +145,8 @@ fn three_hosts_decide(rt: HostRuntime) -> Result<(), Fail> {
 fn a_request_that_took_effect_is_none(rt: HostRuntime) -> Result<(), Fail> {
     let mut three = decided(rt.alloc())?;
     let len = three.sent.len();
-    three.act(1, Deed::Request(write()?))?;
-    three.act(1, Deed::Propose)?;
+    three.act(1, HostDeed::Request(write()?))?;
+    three.act(1, HostDeed::Propose)?;
     assert_eq!(rt; three.sent.len(), len);
     Ok(())
 }
@@ -147,7 +155,7 @@ fn a_request_that_took_effect_is_none(rt: HostRuntime) -> Result<(), Fail> {
 fn a_report_that_left_out_more_is_not_read(rt: HostRuntime) -> Result<(), Fail> {
     let mut three = decided(rt.alloc())?;
     three.hosts[1].forget(2);
-    three.act(2, Deed::Wake)?;
+    three.act(2, HostDeed::Wake)?;
     for _ in 0..3 {
         three.turn()?;
     }

@@ -1,5 +1,4 @@
 use Rattle.std.proofs.Common.{◌∷◌, ◌+◌, refl, sym, ap, ◌∙◌, subst, arith}
-use Rattle.std.proofs.lemmas.Bool.Decides.{nat_tests}
 use Rattle.host.specs.Receiving.{Comes}
 use Rattle.host.specs.Views.{HostView}
 use Rattle.host.proofs.Received.{at_front}
@@ -8,7 +7,8 @@ use Rattle.host.proofs.host.Host.vote_next.Goals as goal
 pub returns-clause-ok : goal.returns-clause-ok
 returns-clause-ok g c = (
   let e = ap (λ (h : HostView _ _). h.voted) c.self.view_is in
-      grind (arith, nat_tests, c.if-upto-self.false, c.upto.ensures, e),
+      let more = c.if-upto-self.false in
+      omega (arith, more, c.upto.ensures, e),
   c.in-Some.envelope.now,
   sym (ap (λ (h : HostView _ _). h.aside) c.self.view_is)
       ∙ at_front c.self.inside.aside.items c.in-Some.envelope.now

@@ -3,7 +3,7 @@ use Rattle.std.specs.Prelude.{is_none}
 use Rattle.host.specs.Hearing.{at_once}
 use Rattle.host.specs.Views.{HostView}
 use Rattle.host.proofs.Received.{voted_more}
-use Rattle.host.proofs.host.Host.vote.Goals as goal
+use Rattle.host.proofs.host.Host.vote_on.Goals as goal
 
 pub loop-init : goal.loop-init
 loop-init g c = (

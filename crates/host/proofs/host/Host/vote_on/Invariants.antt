@@ -1,6 +1,6 @@
 use Rattle.std.proofs.Common.{◌≡◌, ◌≤◌}
 use Rattle.host.specs.Hearing.{VotesOn}
-use Rattle.host.proofs.host.Host.vote.Given as goal
+use Rattle.host.proofs.host.Host.vote_on.Given as goal
 
 -- it voted so far, and at least as often as the loop ran
 abbrev pub invariant-loop : goal.invariant-loop
