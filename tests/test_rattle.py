@@ -70,6 +70,10 @@ class Layers(Case):
         self.assertEqual(told, "".join(f"{name}: 0 differ\n" for name in names))
         self.note(f"{len(names)} files")
 
+    def test_hosts(self):
+        """Hosts whose letters are lost, repeated and reordered answer by one order, as worked out and as drawn."""
+        self.run_tests("test_host")
+
     def test_drawn_inputs(self):
         """Whatever bytes a client sends, whole and in pieces, it is told the same, and whole replies that may come."""
         told = self.try_crate("test_fuzz", *QUICK, "--", FIRST_SEED, SEEDS)

@@ -1,0 +1,30 @@
+use Rattle.std.proofs.Common.{◌≡◌, true, sym, subst}
+use Rattle.object.specs.OnceOnly.{is_later}
+use Rattle.node.specs.declared.deed.Deed.TheVariants.{Request}
+use Rattle.cluster.specs.Hosts.{HostState}
+use Rattle.cluster.specs.Steps.{asks, acts}
+use Rattle.host.proofs.Steps.{known_stays, acting, hears_step, votes_lead, forgetting}
+use Rattle.host.proofs.laws.calls_are_steps.Goals as goal
+
+pub returns-clause-asks : goal.returns-clause-asks
+returns-clause-asks g c = λ owner h n m d k is handed later.
+    acting g.O.Object.rules n k owner h (Request d) is (asks n m d is.member handed
+    (subst (λ (x : HostState _ _). is_later d.key x.holding.object.latest ≡ true) (sym is.shown) later))
+
+pub returns-clause-known : goal.returns-clause-known
+returns-clause-known g c = λ h d known. known_stays g.O.Object.rules h d known
+
+pub returns-clause-acts : goal.returns-clause-acts
+returns-clause-acts g c = λ owner h n d k is internal.
+    acting g.O.Object.rules n k owner h d is (acts n d is.member internal)
+
+pub returns-clause-hears : goal.returns-clause-hears
+returns-clause-hears g c = λ owner r h z n p before now k is of to hears.
+    hears_step g.O.Object.rules n k owner h z before now is r p of to hears
+
+pub returns-clause-votes : goal.returns-clause-votes
+returns-clause-votes g c = λ owner members upto h z n before now k are is votes.
+    votes_lead g.O.Object.rules n owner members upto h before k are is z now votes
+
+pub returns-clause-forgets : goal.returns-clause-forgets
+returns-clause-forgets g c = λ owner h n base k is rises out. forgetting g.O.Object.rules n k owner h base is rises out

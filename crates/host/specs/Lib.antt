@@ -1,0 +1,7 @@
+pub mod Left
+pub mod Deeds
+pub mod Outboxes
+pub mod Views
+pub mod Receiving
+pub mod Hearing
+pub mod Steps
