@@ -36,8 +36,9 @@ pub fn hosts_stay<O: Object>()
 
 /// Each call of a host of a cluster is a step of the cluster (`ClusterStep`), or none, and it is that host afterwards.
 /// It is asked for what was handed in (`asks`), where its filter doesn't know that, and else does nothing (`known`); it
-/// does something by itself (`acts`), hears an envelope to it (`hears`), votes (`votes`), or forgets (`forgets`). So of
-/// hosts of which each was made new, and then did such calls, all holds that is proved of a cluster.
+/// does something by itself (`acts`), hears an envelope to it (`hears`), or forgets (`forgets`). To vote is a step for
+/// each letter that was put aside (`votes`). So of hosts of which each was made new, and then did such calls, all holds
+/// that is proved of a cluster.
 pub fn calls_are_steps<O: Object>()
     ensures asks { (owner : ℕ → ℕ) (h : HostView O.Op O) (n m : ℕ) (c : Command O.Op)
         (k : Hosts O.Op O O.Reply) →
