@@ -1,6 +1,8 @@
-ghost use Rattle.std.specs.Prelude.{◌≡◌, ◌+◌, ◌≤◌, [], length, ◌||◌, max, true, false, Ok, IfOk, OnOk};
+ghost use Rattle.std.specs.Prelude.{◌≡◌, ◌+◌, ◌≤◌, [], length, ◌||◌, max, true, false, Result, Ok, IfOk, OnOk, OnErr};
+ghost use Rattle.hall.specs.declared.error.HallError.{HallError};
+ghost use Rattle.conversation.specs.Desks.{HandsIn};
 ghost use Rattle.event_loops.specs.Courses.{AllLead};
-ghost use Rattle.event_loops.specs.Seats.{has_ended};
+ghost use Rattle.event_loops.specs.Seats.{gives_up_at, has_ended};
 
 use crate::beginning::Beginning;
 use crate::desk::LoopDesk;
@@ -83,6 +85,10 @@ impl<D: LoopDesk, B: Beginning> House<D, B> {
     /// Opens a session for a loop.
     pub(crate) fn open_session(&mut self, owner: usize) -> Result<D::Ticket, HallError>
         ensures new { IfOk result (λ t. D.Ticket.keeping.IsOf t []) }
+        ensures session { IfOk result (λ t. D.Ticket.keeping.session t ≡ D.opened self.old + 1) }
+        ensures opened { OnOk result (D.opened self.new ≡ D.opened self.old + 1) }
+        ensures err { OnErr result (D.opened self.new ≡ D.opened self.old) }
+        ensures kept { OnErr result (D.handed_in self.new ≡ D.handed_in self.old) }
     {
         self.owners.reserve(1)?;
         let ticket = self.desk.open_session()?;
@@ -104,7 +110,11 @@ impl<D: LoopDesk, B: Beginning> House<D, B> {
 
     /// A client hands in what there is.
     pub(crate) fn hand_in<S: Stream>(&mut self, seat: &mut Seat<S, D::Ticket>)
-        ensures { seat.new.owed ≡ seat.old.owed }
+        ensures handed_in { (ended : Result Unit HallError)
+            × HandsIn D.Ticket.keeping D.submits self.old self.new
+            seat.old.client seat.new.client ended
+            × (seat.new.is_abandoned ≡ (gives_up_at ended || seat.old.is_abandoned)) }
+        ensures owed { seat.new.owed ≡ seat.old.owed }
     {
         seat.hand_in(&mut self.desk);
     }
@@ -112,6 +122,7 @@ impl<D: LoopDesk, B: Beginning> House<D, B> {
     /// What a client hands in is handed in at this node.
     pub(crate) fn stand_at(&mut self, node: u8)
         requires node { 1 ≤ node }
+        ensures kept { D.handed_in self.new ≡ D.handed_in self.old }
     {
         self.desk.stand_at(node);
     }

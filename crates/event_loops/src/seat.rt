@@ -2,6 +2,7 @@ ghost use Rattle.std.specs.Prelude.{◌≡◌, ◌+◌, ◌<◌, ◌≤◌, ◌|
 ghost use Rattle.session.specs.Serving.{longest_piece};
 ghost use Rattle.hall.specs.declared.error.HallError.{HallError};
 ghost use Rattle.conversation.specs.Desks.{HandsIn, Notes};
+ghost use Rattle.conversation.specs.Talks.{is_awaiting, leaving};
 ghost use Rattle.event_loops.specs.Courses.{AllLead};
 ghost use Rattle.event_loops.specs.Seats.{gives_up_at, has_ended};
 ghost use Rattle.event_loops.specs.declared.seat.Wish.TheVariants.{End};
@@ -83,7 +84,10 @@ impl<S: Stream, T: SessionTicket> Seat<S, T> {
 
     /// Its client has gone.
     pub(crate) fn give_up(&mut self)
-        ensures { self.new.owed ≡ self.old.owed }
+        ensures gone { self.new.has_gone ≡ true }
+        ensures leaves { self.new.client ≡ leaving self.old.client }
+        ensures abandoned { self.new.is_abandoned ≡ self.old.is_abandoned }
+        ensures owed { self.new.owed ≡ self.old.owed }
     {
         self.has_gone = true;
         self.client.leave();
@@ -158,6 +162,10 @@ impl<S: Stream, T: SessionTicket> Seat<S, T> {
     pub(crate) fn give_up_waiting(&mut self)
         ensures owed { self.new.owed ≡ self.old.owed }
         ensures open { self.old.is_half_closed ≡ false → self.new ≡ self.old }
+        ensures idle { is_awaiting self.old.client.stage ≡ false → self.new ≡ self.old }
+        ensures leaves { self.old.is_half_closed ≡ true →
+            is_awaiting self.old.client.stage ≡ true →
+            self.new ≡ record self.old { client = leaving self.old.client } }
     {
         if self.is_half_closed && self.is_asked() {
             self.client.leave();
@@ -185,12 +193,16 @@ impl<S: Stream, T: SessionTicket> Seat<S, T> {
     }
 
     /// Its session's ticket.
-    pub(crate) fn ticket(&self) -> &T {
+    pub(crate) fn ticket(&self) -> &T
+        ensures ticket { result.now ≡ self.now.client.ticket }
+    {
         self.client.conversation().ticket()
     }
 
     /// Whether an answer is awaited.
-    pub(crate) fn is_asked(&self) -> bool {
+    pub(crate) fn is_asked(&self) -> bool
+        ensures awaits { result ≡ is_awaiting self.now.client.stage }
+    {
         matches!(self.client.conversation().stage(), Stage::Asked)
     }
 

@@ -1,4 +1,4 @@
-ghost use Rattle.std.specs.Prelude.{IfOk};
+ghost use Rattle.std.specs.Prelude.{◌≡◌, All, IfNone, IfOk, IfSome, IsOk, Contains, Err, vec_len};
 ghost use Rattle.event_loops.specs.Courses.{AllLead};
 ghost use Rattle.event_loops.specs.LoopCounts.{IsLoopCount};
 
@@ -115,10 +115,13 @@ struct Room {
 
 impl Room {
     // Room for so many loops.
-    fn new<R: Net>(rt: &R, alloc: Global, loops: u32) -> Result<Room, ServeFault> {
+    fn new<R: Net>(rt: &R, alloc: Global, loops: u32) -> Result<Room, ServeFault>
+        ensures polls { IfOk result (λ room. vec_len room.polls ≡ loops) }
+        ensures mailboxes { IfOk result (λ room. vec_len room.mailboxes ≡ loops) }
+    {
         let mut polls = Vec::new(alloc);
         let mut mailboxes = Vec::new(alloc);
-        for _ in 0..loops {
+        for _at in 0..loops {
             let poll = Poll::new(rt)?;
             let mailbox = Mailbox::new(alloc, poll.registry(), WAKER)?;
             mailboxes
@@ -184,8 +187,16 @@ where
 }
 
 // The first of these faults, where there is one.
-fn first_fault(ended: &[Result<(), ServeFault>]) -> Option<ServeFault> {
-    ended.iter().find_map(|end| end.err())
+fn first_fault(ended: &[Result<(), ServeFault>]) -> Option<ServeFault>
+    ensures none { IfNone result (All IsOk ended.now) }
+    ensures some { IfSome result (λ fault. Contains ended.now (Err fault)) }
+{
+    for end in ended {
+        if let Err(fault) = end {
+            return Some(*fault);
+        }
+    }
+    None
 }
 
 // Waits until all of these threads have ended.

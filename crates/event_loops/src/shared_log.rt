@@ -1,4 +1,4 @@
-ghost use Rattle.std.specs.Prelude.{◌≡◌, ◌≢◌, ◌≤◌, ◌+◌, ◌-◌, ◌^◌, [], length, min, IfOk, IfErr, OnOk};
+ghost use Rattle.std.specs.Prelude.{◌≡◌, ◌≢◌, ◌≤◌, ◌+◌, ◌-◌, ◌^◌, [], length, min, IfOk, IfErr, IfSome, OnOk, Err};
 ghost use Rattle.std.specs.Duration.{as_nanos};
 ghost use Rattle.event_loops.specs.declared.shared_log.Durability.TheVariants.{Synced, Written};
 ghost use Rattle.event_loops.specs.declared.fault.ServeFault.TheVariants.{OutOfMemory};
@@ -59,7 +59,9 @@ impl SharedLog {
     }
 
     /// How long what is answered may stay unsynced.
-    pub(crate) fn pause(&self) -> Duration {
+    pub(crate) fn pause(&self) -> Duration
+        ensures pause { result ≡ self.now.pause }
+    {
         self.pause
     }
 
@@ -195,25 +197,45 @@ impl Writing {
         rt: &R,
         house: &Mutex<House<D, B>>,
         durability: Durability,
-    ) -> Result<(), ServeFault> {
-        if let Some(fault) = self.fault {
-            return Err(fault);
+    ) -> Result<(), ServeFault>
+        ensures failed { IfSome self.old.fault (λ fault. result ≡ Err fault) }
+        ensures written { OnOk result (self.new.journal.written ≡ self.new.journal.due) }
+        ensures synced { OnOk result (durability ≡ Synced →
+            self.new.journal.synced ≡ self.new.journal.due) }
+        ensures none_waits { OnOk result (self.new.journal.waiting ≡ []) }
+    {
+        match self.fault {
+            Some(fault) => return Err(fault),
+            None => {}
         }
         if self.journal.is_idle() {
             let mut house = house.lock(rt);
             self.take_up(&mut house)?;
         }
         let before = self.held(durability);
-        match durability {
-            Durability::Written => self.journal.write(),
-            Durability::Synced => self.journal.keep(),
+        match self.keep_waiting(durability) {
+            Ok(()) => {}
+            Err(fault) => return Err(fault_of(fault)),
         }
-        .map_err(fault_of)?;
         if self.held(durability) == before {
             // somebody waits for a command that the hall doesn't have
             return Err(ServeFault::BadNumber);
         }
         Ok(())
+    }
+
+    // Writes what waits, and has it synced, where it is to be.
+    fn keep_waiting(&mut self, durability: Durability) -> Result<(), JournalFault>
+        ensures written { OnOk result (self.new.journal.written ≡ self.new.journal.due) }
+        ensures synced { OnOk result (durability ≡ Synced →
+            self.new.journal.synced ≡ self.new.journal.due) }
+        ensures none_waits { OnOk result (self.new.journal.waiting ≡ []) }
+        ensures fault { self.new.fault ≡ self.old.fault }
+    {
+        match durability {
+            Durability::Written => self.journal.write(),
+            Durability::Synced => self.journal.keep(),
+        }
     }
 }
 
