@@ -20,6 +20,7 @@ mod values;
 use anyhow::{Context, Result, ensure};
 use case_file::{Case, cases_of};
 use kinds::try_case;
+use std::fs::Files;
 use std::rt::Env;
 use std::{env, fs};
 

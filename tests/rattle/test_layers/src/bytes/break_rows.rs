@@ -308,7 +308,8 @@ impl Client {
     /// Whether it is tried that the reads after so many fail.
     fn is_tried(&self, good_reads: usize) -> bool {
         let reads = self.reads();
-        let is_near_an_end = good_reads < FIRST_AND_LAST || good_reads > reads.saturating_sub(FIRST_AND_LAST);
+        let is_near_an_end = good_reads < FIRST_AND_LAST
+            || good_reads > reads.saturating_sub(FIRST_AND_LAST);
         reads <= FEW_READS || is_near_an_end || good_reads % EACH == 0
     }
 
