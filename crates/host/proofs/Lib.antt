@@ -1,3 +1,4 @@
 pub mod Reports
 pub mod Received
 pub mod Steps
+pub mod Counting

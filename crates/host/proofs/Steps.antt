@@ -1,25 +1,27 @@
 -- A host among the hosts of a cluster.
-use Rattle.std.proofs.Common.{◌≡◌, ◌≢◌, ◌≤◌, ⊎_elim, ℕ, Bool, true, false, cond, List, [], ◌∷◌, ◌++◌}
-use Rattle.std.proofs.Common.{append-nil, append_assoc, Option, None, Some, refl, sym, ap, ◌∙◌, subst}
+use Rattle.std.proofs.Common.{◌≡◌, ◌≢◌, ◌≤◌, ◌+◌, ⊎_elim, ℕ, Bool, true, false, cond, List, [], ◌∷◌, ◌++◌}
+use Rattle.std.proofs.Common.{append-nil, append_assoc, Option, None, Some, refl, sym, ap, ◌∙◌, subst, arith}
 use Rattle.std.proofs.lemmas.List.{map-append}
 use Rattle.object.specs.ListLaws.{Each, Each-append, Each-weaker, In-left, In-right, In-cases}
 use Rattle.object.specs.Lists.{In}
 use Rattle.object.specs.Objects.{Rules}
-use Rattle.object.specs.OnceOnly.{is_later}
+use Rattle.object.specs.OnceOnly.{Filtered, is_later}
 use Rattle.object.specs.declared.command.Command.{Command}
 use Rattle.ballot.specs.Members.{is_member}
 use Rattle.ballot.specs.Rests.{rest_of_body}
 use Rattle.ballot.specs.declared.letter.Letter.{Letter}
+use Rattle.node.specs.Holding.{HeldTurn}
 use Rattle.node.specs.Receiving.{ShowsReceived}
 use Rattle.node.specs.declared.deed.Deed.{Deed}
 use Rattle.node.specs.declared.deed.Deed.TheVariants as deeds
 use Rattle.cluster.specs.Clusters.{Hosts, with_at, with_handed, labelled, host_turned, host_acted}
 use Rattle.cluster.specs.Envelopes.{Envelope, IsLegible}
 use Rattle.cluster.specs.Hosts.{HostState, host_turn, with_holding, with_node_state, forgotten_host}
-use Rattle.cluster.specs.Steps.{ClusterStep, AreHosts, later, hands_in, receives, forgets}
+use Rattle.cluster.specs.Steps.{ClusterStep, AreHosts, IsInternal, later, hands_in, receives, forgets}
 use Rattle.cluster.specs.Storing.{stored_after}
 use Rattle.cluster.proofs.alone.Acting.{same_number}
 use Rattle.cluster.proofs.together.Counting.{other_number}
+use Rattle.host.specs.Counting.{deed_events, receipt_events}
 use Rattle.host.specs.Hearing.{Hears, Votes, VotesOn, at_once, further}
 use Rattle.host.specs.Receiving.{Comes, put_aside}
 use Rattle.host.specs.Steps.{IsUnderWay, IsHostOf, ChangesOnly, StepsTo, StepsOrStays, LeadsTo, steps, stays}
@@ -43,10 +45,35 @@ known_if : {X : Type 0} (b : Bool) (x y : X) → b ≡ false → cond b x y ≡ 
 known_if true x y e = absurd (cc)
 known_if false x y e = refl
 
-pub known_stays : {O Op Reply : Type 0} (rules : Rules O Op Reply) (h : HostView Op O) (c : Command Op)
+known_turn : {O Op Reply : Type 0} (rules : Rules O Op Reply) (h : HostView Op O) (c : Command Op)
     → is_later c.key h.shown.holding.object.latest ≡ false
     → host_turn rules h.shown (deeds.Request c) ≡ record { state = h.shown.holding; sent = []; answers = [] }
-known_stays rules h c e = known_if (is_later c.key h.shown.holding.object.latest) _ _ e
+known_turn rules h c e = known_if (is_later c.key h.shown.holding.object.latest) _ _ e
+
+pub known_stays : {O Op Reply : Type 0} (rules : Rules O Op Reply) (h : HostView Op O) (c : Command Op)
+    → is_later c.key h.shown.holding.object.latest ≡ false
+    → (acted_view rules h (deeds.Request c) ≡ h)
+    × (host_turn rules h.shown (deeds.Request c) ≡ record { state = h.shown.holding; sent = []; answers = [] })
+known_stays {O} {Op} {Reply} rules h c e =
+    let nothing : h.taken + 0 ≡ h.taken = omega arith in
+    let same : h.taken + deed_events h.shown.holding.object (deeds.Request c) ≡ h.taken =
+    ap (λ b. h.taken + cond b 1 0) e ∙ nothing in (
+      ap (λ (t : HeldTurn Op O Reply). record h {
+        shown = with_holding h.shown t.state;
+        taken = h.taken + deed_events h.shown.holding.object (deeds.Request c);
+      }) (known_turn rules h c e)
+          ∙ ap (λ n. record h { taken = n }) same,
+      known_turn rules h c e,
+    )
+
+-- what a host does by itself is an event
+pub internal_counts : {Op O : Type 0} (f : Filtered O) (d : Deed Op) → IsInternal d → deed_events f d ≡ 1
+internal_counts f (deeds.Request c) internal = absurd internal
+internal_counts f deeds.Wake internal = refl
+internal_counts f deeds.Nudge internal = refl
+internal_counts f deeds.Propose internal = refl
+internal_counts f deeds.Perform internal = refl
+internal_counts f deeds.Restart internal = absurd internal
 
 pub other_stays : {Op O Reply : Type 0} (h : HostView Op O) (n m : ℕ) (k j : Hosts Op O Reply) → IsHostOf h m k → m ≢ n
     → ChangesOnly n k j → IsHostOf h m j
@@ -54,6 +81,7 @@ other_stays h n m k j is apart changes = record {
   member = ap (λ ms. is_member ms m) changes.members ∙ is.member;
   shown = changes.others m apart ∙ is.shown;
   aside = more_under_way m k.envelopes j.envelopes h.aside changes.envelopes is.aside;
+  taken = changes.taken m apart ∙ is.taken;
 }
 
 module _ {O Op Reply : Type 0} (rules : Rules O Op Reply) (n : ℕ) (k : Hosts Op O Reply) (owner : ℕ → ℕ) where
@@ -62,18 +90,25 @@ module _ {O Op Reply : Type 0} (rules : Rules O Op Reply) (n : ℕ) (k : Hosts O
       → StepsTo rules owner n h k (record k { handed = with_handed k.handed n c })
   handing_in h c is mine own = record {
     step = hands_in n c mine own;
-    changes = record { members = refl; others = λ m apart. refl; envelopes = λ p i. i };
-    is = record { member = is.member; shown = is.shown; aside = is.aside };
+    changes = record {
+      members = refl;
+      others = λ m apart. refl;
+      taken = λ m apart. refl;
+      envelopes = λ p i. i;
+    };
+    is = record { member = is.member; shown = is.shown; aside = is.aside; taken = is.taken };
   }
 
   -- the step by which it does this by itself, whatever allows it
   pub acting : (h : HostView Op O) (d : Deed Op) → IsHostOf h n k → ClusterStep rules owner k (host_acted rules k n d)
+      → deed_events h.shown.holding.object d ≡ 1
       → StepsTo rules owner n (acted_view rules h d) k (host_acted rules k n d)
-  acting h d is step = record {
+  acting h d is step one = record {
     step = step;
     changes = record {
       members = refl;
       others = λ m apart. other_at k.host n m (with_holding (k.host n) (host_turn rules (k.host n) d).state) apart;
+      taken = λ m apart. other_at k.taken n m (k.taken n + 1) apart;
       envelopes = λ p i. In-left p k.envelopes (labelled (k.host n).base (host_turn rules (k.host n) d).sent) i;
     };
     is = record {
@@ -83,6 +118,7 @@ module _ {O Op Reply : Type 0} (rules : Rules O Op Reply) (n : ℕ) (k : Hosts O
       aside = more_under_way n k.envelopes
           (k.envelopes ++ labelled (k.host n).base (host_turn rules (k.host n) d).sent) h.aside
           (λ p i. In-left p k.envelopes (labelled (k.host n).base (host_turn rules (k.host n) d).sent) i) is.aside;
+      taken = own_at k.taken n (k.taken n + 1) ∙ ap (λ m. m + 1) is.taken ∙ ap (λ m. h.taken + m) (sym one);
     };
   }
 
@@ -97,30 +133,44 @@ module _ {O Op Reply : Type 0} (rules : Rules O Op Reply) (n : ℕ) (k : Hosts O
     changes = record {
       members = refl;
       others = λ m apart. other_at k.host n m (forgotten_host base (k.host n)) apart;
+      taken = λ m apart. refl;
       envelopes = λ p i. i;
     };
     is = record {
       member = is.member;
       shown = own_at k.host n (forgotten_host base (k.host n)) ∙ ap (forgotten_host base) is.shown;
       aside = is.aside;
+      taken = is.taken;
     };
   }
+
+  uncounted : (taken : ℕ) → taken ≡ k.taken n + 0 → k.taken n ≡ taken
+  uncounted taken e = omega (arith, e)
 
   module _ (member : is_member k.members n ≡ true) where
     -- an envelope comes to the host of node n, which is s and becomes t, and to one that puts the rest aside
     happens : (s t : HostState Op O) (p : Envelope (Command Op)) (before now : List (Letter (Command Op)))
         → k.host n ≡ s → In p k.envelopes → p.letter.to ≡ n → (r : Receipt) → Comes r s p t before now
         → (z : HostView Op O) → z.shown ≡ t → Each (IsUnderWay n k.envelopes) z.aside
+        → z.taken ≡ k.taken n + receipt_events r
         → StepsOrStays rules owner s.base n z before now k
-    happens s t p before now is of to receipts.Illegible c z same all =
-        stays (record { member = member; shown = is ∙ sym (same ∙ c.1.0); aside = all }) c.1.1
-    happens s t p before now is of to receipts.Forgotten c z same all =
-        stays (record { member = member; shown = is ∙ sym (same ∙ c.1.0); aside = all }) c.1.1
-    happens s t p before now is of to receipts.Unfit c z same all =
-        stays (record { member = member; shown = is ∙ sym (same ∙ c.3.0); aside = all }) c.3.1
-    happens s t p before now is of to receipts.Aside c z same all =
-        stays (record { member = member; shown = is ∙ sym (same ∙ c.2.0); aside = all }) c.2.1
-    happens s t p before now is of to receipts.Received c z same all =
+    happens s t p before now is of to receipts.Illegible c z same all count =
+        stays
+        (record { member = member; shown = is ∙ sym (same ∙ c.1.0); aside = all; taken = uncounted z.taken count })
+        c.1.1
+    happens s t p before now is of to receipts.Forgotten c z same all count =
+        stays
+        (record { member = member; shown = is ∙ sym (same ∙ c.1.0); aside = all; taken = uncounted z.taken count })
+        c.1.1
+    happens s t p before now is of to receipts.Unfit c z same all count =
+        stays
+        (record { member = member; shown = is ∙ sym (same ∙ c.3.0); aside = all; taken = uncounted z.taken count })
+        c.3.1
+    happens s t p before now is of to receipts.Aside c z same all count =
+        stays
+        (record { member = member; shown = is ∙ sym (same ∙ c.2.0); aside = all; taken = uncounted z.taken count })
+        c.2.1
+    happens s t p before now is of to receipts.Received c z same all count =
         steps
         (record (host_turned k n (with_node_state (k.host n) c.1) c.2 k.happenings) {
           stored = with_at k.stored n (stored_after (k.stored n) c.0);
@@ -138,6 +188,7 @@ module _ {O Op Reply : Type 0} (rules : Rules O Op Reply) (n : ℕ) (k : Hosts O
           changes = record {
             members = refl;
             others = λ m apart. other_at k.host n m (with_node_state (k.host n) c.1) apart;
+            taken = λ m apart. other_at k.taken n m (k.taken n + 1) apart;
             envelopes = λ q i. In-left q k.envelopes (labelled (k.host n).base c.2) i;
           };
           is = record {
@@ -146,6 +197,7 @@ module _ {O Op Reply : Type 0} (rules : Rules O Op Reply) (n : ℕ) (k : Hosts O
                 ∙ ap (λ (x : HostState Op O). with_node_state x c.1) is ∙ sym (same ∙ c.5);
             aside = more_under_way n k.envelopes (k.envelopes ++ labelled (k.host n).base c.2) z.aside
                 (λ q i. In-left q k.envelopes (labelled (k.host n).base c.2) i) all;
+            taken = own_at k.taken n (k.taken n + 1) ∙ sym count;
           };
         })
         refl
@@ -167,6 +219,7 @@ module _ {O Op Reply : Type 0} (rules : Rules O Op Reply) (n : ℕ) (k : Hosts O
     hears_step r p of to c = happens is.member h.shown z.shown p before now is.shown of to r c.shown z refl
         (subst (Each (IsUnderWay n k.envelopes)) (sym c.aside)
         (Each-append (IsUnderWay n k.envelopes) h.aside (put_aside r p) is.aside (put_under_way r p of to)))
+        (c.taken ∙ ap (λ m. m + receipt_events r) (sym is.taken))
 
     pub votes_step : (upto : ℕ) (r : Option Receipt) → Votes upto h r z before now
         → StepsOrStays rules owner h.shown.base n z before now k
@@ -175,6 +228,7 @@ module _ {O Op Reply : Type 0} (rules : Rules O Op Reply) (n : ℕ) (k : Hosts O
         let all : Each (IsUnderWay n k.envelopes) (c.1 ∷ z.aside) =
         subst (Each (IsUnderWay n k.envelopes)) c.2 is.aside in
         happens is.member h.shown z.shown c.1 before now is.shown all.0.among all.0.to r c.5 z refl all.1
+        (c.6 ∙ ap (λ m. m + receipt_events r) (sym is.taken))
 
 -- a host's base stays
 came_base : {Op O : Type 0} (r : Receipt) (s t : HostState Op O) (p : Envelope (Command Op))
@@ -197,6 +251,7 @@ module _ {O Op Reply : Type 0} (rules : Rules O Op Reply) (n : ℕ) (owner : ℕ
     changes = record {
       members = to.changes.members ∙ l.changes.members;
       others = λ m apart. to.changes.others m apart ∙ l.changes.others m apart;
+      taken = λ m apart. to.changes.taken m apart ∙ l.changes.taken m apart;
       envelopes = λ p i. to.changes.envelopes p (l.changes.envelopes p i);
     };
     is = to.is;
@@ -228,7 +283,12 @@ module _ {O Op Reply : Type 0} (rules : Rules O Op Reply) (n : ℕ) (owner : ℕ
   votes_lead upto h before k are is _ _ at_once = record {
     hosts = k;
     are = are;
-    changes = record { members = refl; others = λ m apart. refl; envelopes = λ p i. i };
+    changes = record {
+      members = refl;
+      others = λ m apart. refl;
+      taken = λ m apart. refl;
+      envelopes = λ p i. i;
+    };
     is = is;
     under = refl;
     happenings = refl;

@@ -15,9 +15,10 @@ deed_of Propose = deeds.Propose
 deed_of Perform = deeds.Perform
 
 -- the filter lets the command through that is asked for
-abbrev pub is_let_through : {Op O : Type 0} → Filtered O → HostDeed Op → Bool
-is_let_through f (Request c) = is_later c.key f.latest
-is_let_through f Wake = true
-is_let_through f Nudge = true
-is_let_through f Propose = true
-is_let_through f Perform = true
+abbrev pub is_let_through : {Op O : Type 0} → Filtered O → Deed Op → Bool
+is_let_through f (deeds.Request c) = is_later c.key f.latest
+is_let_through f deeds.Wake = true
+is_let_through f deeds.Nudge = true
+is_let_through f deeds.Propose = true
+is_let_through f deeds.Perform = true
+is_let_through f deeds.Restart = true

@@ -3,6 +3,7 @@ use Rattle.std.specs.Prelude.{◌≡◌, ◌<◌, ◌≤◌, ◌+◌, ◌⊎◌,
 use Rattle.object.specs.declared.command.Command.{Command}
 use Rattle.ballot.specs.declared.letter.Letter.{Letter}
 use Rattle.cluster.specs.Envelopes.{Envelope}
+use Rattle.host.specs.Counting.{receipt_events}
 use Rattle.host.specs.Receiving.{AsksForVote, Comes, put_aside}
 use Rattle.host.specs.Views.{HostView}
 use Rattle.host.specs.declared.receipt.Receipt.{Receipt}
@@ -15,6 +16,7 @@ pub record Hears {Op O : Type 0} (r : Receipt) (h : HostView Op O) (p : Envelope
   pub shown : Comes r h.shown p z.shown before now
   pub aside : z.aside ≡ h.aside ++ put_aside r p
   pub voted : z.voted ≡ h.voted
+  pub taken : z.taken ≡ h.taken + receipt_events r
   pub waits : AsksForVote p.letter.body → r ≡ receipts.Received → ⊥
 
 -- host h takes the first that was put aside, where its record is among the first so many, and becomes z
@@ -27,6 +29,7 @@ Votes {Op} upto h (Some r) z before now =
     × (z.voted ≡ h.voted + 1)
     × (put_aside r p ≡ [])
     × Comes r h.shown p z.shown before now
+    × (z.taken ≡ h.taken + receipt_events r)
 
 -- and so on with those behind it: h becomes z, and the letters now are those before with what it sent
 pub data VotesOn {Op O : Type 0} (upto : ℕ) (h : HostView Op O) (before : List (Letter (Command Op)))

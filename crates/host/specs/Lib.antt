@@ -1,5 +1,6 @@
 pub mod Left
 pub mod Deeds
+pub mod Counting
 pub mod Outboxes
 pub mod Views
 pub mod Receiving

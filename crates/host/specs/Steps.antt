@@ -1,5 +1,5 @@
 -- What a host does, among the hosts of a cluster.
-use Rattle.std.specs.Prelude.{◌≡◌, ◌≢◌, ℕ, true, List, ◌++◌}
+use Rattle.std.specs.Prelude.{◌≡◌, ◌≢◌, ◌≤◌, ℕ, true, List, ◌++◌}
 use Rattle.object.specs.ListLaws.{Each}
 use Rattle.object.specs.Lists.{In}
 use Rattle.object.specs.Objects.{Rules}
@@ -9,6 +9,7 @@ use Rattle.ballot.specs.declared.letter.Letter.{Letter}
 use Rattle.cluster.specs.Clusters.{Hosts, labelled}
 use Rattle.cluster.specs.Envelopes.{Envelope}
 use Rattle.cluster.specs.Steps.{AreHosts, ClusterStep}
+use Rattle.host.specs.Counting.{most_host_events}
 use Rattle.host.specs.Views.{HostView}
 
 -- the envelope is among these, and goes to node n
@@ -16,16 +17,24 @@ pub record IsUnderWay {C : Type 0} (n : ℕ) (envelopes : List (Envelope C)) (p 
   pub among : In p envelopes
   pub to : p.letter.to ≡ n
 
--- the host is that of node n among these, and what it put aside is under way to it
+-- the host is that of node n among these, what it put aside is under way to it, and so many events were there
 pub record IsHostOf {Op O Reply : Type 0} (h : HostView Op O) (n : ℕ) (k : Hosts Op O Reply) : Type 0 where
   pub member : is_member k.members n ≡ true
   pub shown : k.host n ≡ h.shown
   pub aside : Each (IsUnderWay n k.envelopes) h.aside
+  pub taken : k.taken n ≡ h.taken
+
+-- each member's host is one that counts its events, and these are no more than one host may have
+abbrev pub AreCounted : {Op O Reply : Type 0} → Hosts Op O Reply → Type 0
+AreCounted {Op} {O} k =
+    (n : ℕ) → is_member k.members n ≡ true
+    → (h : HostView Op O) × IsHostOf h n k × (h.taken ≤ most_host_events)
 
 -- of the hosts none but that of node n has changed, and no envelope was taken out
 pub record ChangesOnly {Op O Reply : Type 0} (n : ℕ) (k j : Hosts Op O Reply) : Type 0 where
   pub members : j.members ≡ k.members
   pub others : (m : ℕ) → m ≢ n → j.host m ≡ k.host m
+  pub taken : (m : ℕ) → m ≢ n → j.taken m ≡ k.taken m
   pub envelopes : (p : Envelope (Command Op)) → In p k.envelopes → In p j.envelopes
 
 -- by one step of the cluster the host of node n becomes z

@@ -1,21 +1,24 @@
-ghost use Rattle.std.specs.Prelude.{◌≡◌, ◌≤◌, ◌-◌, ◌⊎◌, [], true, IsOk, IfOk, OnOk, OnErr, slice_get};
+ghost use Rattle.std.specs.Prelude.{◌≡◌, ◌<◌, ◌≤◌, ◌-◌, ◌⊎◌, ◌↔◌, [], true, IsOk, IsErrOf, IfOk, OnOk, OnErr, slice_get};
 ghost use Rattle.std.specs.Option.{option_copied};
 ghost use Rattle.object.specs.Results.{Becomes, AddsAtEnd};
 ghost use Rattle.ballot.specs.Members.{is_member};
 ghost use Rattle.node.specs.Deeds.{ComesToNothing};
 ghost use Rattle.node.specs.Holding.{outcome_held};
 ghost use Rattle.cluster.specs.Hosts.{host_turn};
+ghost use Rattle.host.specs.Counting.{most_host_events};
 ghost use Rattle.host.specs.Deeds.{deed_of, is_let_through};
 ghost use Rattle.host.specs.Outboxes.{sent_on};
 ghost use Rattle.host.specs.Hearing.{Hears, Votes, VotesOn};
 ghost use Rattle.host.specs.Views.{new_view, acted_view, forgotten_view};
 
 use crate::envelope::Envelope;
+use crate::event_count::EventCount;
 use crate::host_deed::HostDeed;
+use crate::host_fault::HostFault;
 use crate::kept::Kept;
 use crate::outbox::Outbox;
 use crate::receipt::Receipt;
-use crate::receiving::{asks_for_vote, is_forgotten, receive_left};
+use crate::receiving::{asks_for_vote, is_forgotten, receive_counted};
 use ballot::{Letter, Members};
 use node::{LeanNode, Outcome};
 use object::{Answer, Command, Object};
@@ -27,13 +30,15 @@ use std::marker::Model;
 type Letters<O> = Vec<Letter<Command<<O as Object>::Op>>>;
 
 /// One node in a process of its own. It keeps the slots from its base on. What asks it for a vote it puts aside, and
-/// receives once its record is kept. What it sends goes under its base. A refusal, for want of memory, changes nothing.
+/// receives once its record is kept. What it sends goes under its base. It counts its events, and refuses what would be
+/// one too many. A refusal, for that or for want of memory, changes nothing.
 #[derive(Drop)]
 pub struct Host<O: Object> {
     node: LeanNode<O>,
     base: u64,
     aside: VecDeque<Envelope<Command<O::Op>>>,
     voted: u64,
+    events: EventCount,
 }
 
 impl<O: Object> Model for Host<O> {
@@ -50,6 +55,7 @@ impl<O: Object> Model for Host<O> {
       shown = record { base = h.base; holding = h.node };
       aside = h.aside.items;
       voted = h.voted;
+      taken = h.events;
     } };
 }
 
@@ -64,6 +70,7 @@ impl<O: Object> Host<O> {
             base: 0,
             aside: VecDeque::new(alloc),
             voted: 0,
+            events: EventCount::new(),
         })
     }
 
@@ -102,6 +109,15 @@ impl<O: Object> Host<O> {
         self.voted
     }
 
+    /// How many events there were here: a deed is one, unless the filter knows the command that it asks for, and so is
+    /// each letter that is received, also by a vote.
+    pub fn events(&self) -> u64
+        ensures count { result ≡ self.now.taken }
+        ensures most { result ≤ most_host_events }
+    {
+        self.events.count()
+    }
+
     /// Of the letters that ask for a vote, the one after so many, where it is aside.
     pub fn record(&self, before: u64) -> Option<&Envelope<Command<O::Op>>>
         requires { self.now.voted ≤ before }
@@ -117,7 +133,7 @@ impl<O: Object> Host<O> {
         deed: HostDeed<O::Op>,
         sent: &mut Outbox<Command<O::Op>>,
         answers: &mut Vec<Answer<O::Reply>>,
-    ) -> Result<Outcome, AllocError>
+    ) -> Result<Outcome, HostFault>
         requires { sent.old.base ≡ self.old.shown.base }
         ensures state { Becomes result self.old self.new
             (acted_view O.rules self.old (deed_of deed)) }
@@ -127,18 +143,24 @@ impl<O: Object> Host<O> {
             (host_turn O.rules self.old.shown (deed_of deed)).answers }
         ensures outcome { IfOk result (λ outcome. outcome
             ≡ outcome_held self.old.shown.holding (deed_of deed)) }
+        ensures exhausted { IsErrOf result HostFault.EventsExhausted
+            ↔ (self.old.taken ≡ most_host_events)
+            × (is_let_through self.old.shown.holding.object (deed_of deed) ≡ true) }
         ensures idle { ComesToNothing O.rules self.old.shown.holding.state (deed_of deed) →
-            IsOk result }
+            self.old.taken < most_host_events → IsOk result }
     {
         if !self.lets_through(&deed) {
             return Ok(Outcome::Done);
         }
-        self.node.act(deed.deed(), &mut sent.letters, answers)
+        let events = self.events.next()?;
+        let outcome = self.node.act(deed.deed(), &mut sent.letters, answers)?;
+        self.events = events;
+        Ok(outcome)
     }
 
     // Whether the object's filter lets the command through that is asked for.
     fn lets_through(&self, deed: &HostDeed<O::Op>) -> bool
-        ensures { result ≡ is_let_through self.now.shown.holding.object deed.now }
+        ensures { result ≡ is_let_through self.now.shown.holding.object (deed_of deed.now) }
     {
         match deed {
             HostDeed::Request(command) => self.node.lets_through(command.key()),
@@ -152,10 +174,12 @@ impl<O: Object> Host<O> {
         &mut self,
         envelope: Envelope<Command<O::Op>>,
         sent: &mut Outbox<Command<O::Op>>,
-    ) -> Result<Receipt, AllocError>
+    ) -> Result<Receipt, HostFault>
         requires { sent.old.base ≡ self.old.shown.base }
         ensures ok { IfOk result (λ receipt.
             Hears receipt self.old envelope self.new sent.old.letters sent.new.letters) }
+        ensures exhausted { IsErrOf result HostFault.EventsExhausted →
+            self.old.taken ≡ most_host_events }
         ensures base { sent.new.base ≡ sent.old.base }
         ensures err { OnErr result ((self.new ≡ self.old) × (sent.new ≡ sent.old)) }
     {
@@ -167,36 +191,44 @@ impl<O: Object> Host<O> {
         &mut self,
         envelope: Envelope<Command<O::Op>>,
         sent: &mut Letters<O>,
-    ) -> Result<Receipt, AllocError>
+    ) -> Result<Receipt, HostFault>
         ensures ok { IfOk result (λ receipt.
             Hears receipt self.old envelope self.new sent.old.items sent.new.items) }
+        ensures exhausted { IsErrOf result HostFault.EventsExhausted →
+            self.old.taken ≡ most_host_events }
         ensures err { OnErr result ((self.new ≡ self.old) × (sent.new.items ≡ sent.old.items)) }
     {
         if asks_for_vote(&envelope.letter().body) {
             if is_forgotten(&envelope.letter().body, self.base) {
                 return Ok(Receipt::Forgotten);
             }
-            self.aside.push_back(envelope)?;
-            return Ok(Receipt::Aside);
+            return match self.aside.push_back(envelope) {
+                Ok(()) => Ok(Receipt::Aside),
+                Err(refused) => Err(AllocError::from(refused).into()),
+            };
         }
-        receive_left(&mut self.node, &envelope, self.base, sent)
+        receive_counted(&mut self.node, &envelope, self.base, &mut self.events, sent)
     }
 
-    /// Receives what was put aside, in order, as far as the records are kept, and appends the votes. Where memory is
-    /// refused, the rest stays aside, with what was refused.
-    pub fn vote(&mut self, kept: Kept, sent: &mut Outbox<Command<O::Op>>) -> Result<(), AllocError>
+    /// Receives what was put aside, in order, as far as the records are kept, and appends the votes. Where one is
+    /// refused, it stays aside, with the rest.
+    pub fn vote(&mut self, kept: Kept, sent: &mut Outbox<Command<O::Op>>) -> Result<(), HostFault>
         requires { sent.old.base ≡ self.old.shown.base }
         ensures votes { VotesOn kept self.old sent.old.letters self.new sent.new.letters }
         ensures all { OnOk result ((self.new.aside ≡ []) ⊎ (kept ≤ self.new.voted)) }
+        ensures exhausted { IsErrOf result HostFault.EventsExhausted →
+            self.new.taken ≡ most_host_events }
         ensures base { sent.new.base ≡ sent.old.base }
     {
         self.vote_on(kept, &mut sent.letters)
     }
 
     // Receives what was put aside, as far as the records are kept.
-    fn vote_on(&mut self, kept: Kept, sent: &mut Letters<O>) -> Result<(), AllocError>
+    fn vote_on(&mut self, kept: Kept, sent: &mut Letters<O>) -> Result<(), HostFault>
         ensures votes { VotesOn kept self.old sent.old.items self.new sent.new.items }
         ensures all { OnOk result ((self.new.aside ≡ []) ⊎ (kept ≤ self.new.voted)) }
+        ensures exhausted { IsErrOf result HostFault.EventsExhausted →
+            self.new.taken ≡ most_host_events }
     {
         for _ in self.voted..kept.upto() {
             if self.vote_next(kept, sent)?.is_none() {
@@ -207,13 +239,11 @@ impl<O: Object> Host<O> {
     }
 
     // Receives the first letter that was put aside, where its record is kept, and appends the vote.
-    fn vote_next(
-        &mut self,
-        kept: Kept,
-        sent: &mut Letters<O>,
-    ) -> Result<Option<Receipt>, AllocError>
+    fn vote_next(&mut self, kept: Kept, sent: &mut Letters<O>) -> Result<Option<Receipt>, HostFault>
         ensures ok { IfOk result (λ receipt.
             Votes kept self.old receipt self.new sent.old.items sent.new.items) }
+        ensures exhausted { IsErrOf result HostFault.EventsExhausted →
+            self.old.taken ≡ most_host_events }
         ensures err { OnErr result ((self.new ≡ self.old) × (sent.new.items ≡ sent.old.items)) }
     {
         if kept.upto() <= self.voted {
@@ -222,7 +252,7 @@ impl<O: Object> Host<O> {
         let Some(envelope) = self.aside.front() else {
             return Ok(None);
         };
-        let receipt = receive_left(&mut self.node, envelope, self.base, sent)?;
+        let receipt = receive_counted(&mut self.node, envelope, self.base, &mut self.events, sent)?;
         self.aside.pop_front();
         self.voted += 1;
         Ok(Some(receipt))

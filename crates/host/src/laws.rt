@@ -1,4 +1,5 @@
-ghost use Rattle.std.specs.Prelude.{◌≡◌, ◌≢◌, ◌≤◌, ℕ, true, false, List, []};
+ghost use Rattle.std.specs.Prelude.{◌≡◌, ◌≢◌, ◌≤◌, ℕ, true, false, List, [], length};
+ghost use Rattle.object.specs.Legal.{IsLegal};
 ghost use Rattle.object.specs.Lists.{In};
 ghost use Rattle.object.specs.OnceOnly.{is_later};
 ghost use Rattle.object.specs.declared.command.Command.{Command};
@@ -12,7 +13,7 @@ ghost use Rattle.cluster.specs.Envelopes.{Envelope};
 ghost use Rattle.cluster.specs.Hosts.{host_turn, forgotten_host};
 ghost use Rattle.cluster.specs.Steps.{AreHosts, IsInternal};
 ghost use Rattle.host.specs.Hearing.{Hears, VotesOn};
-ghost use Rattle.host.specs.Steps.{IsHostOf, ChangesOnly, StepsTo, StepsOrStays, LeadsTo};
+ghost use Rattle.host.specs.Steps.{IsHostOf, AreCounted, ChangesOnly, StepsTo, StepsOrStays, LeadsTo};
 ghost use Rattle.host.specs.Views.{HostView, new_view, acted_view, forgotten_view};
 ghost use Rattle.host.specs.declared.receipt.Receipt.{Receipt};
 ghost use Rattle.host.specs.declared.receipt.Receipt.TheVariants.{Unfit};
@@ -47,8 +48,9 @@ pub fn calls_are_steps<O: Object>()
         (host_acted O.rules k n (Request c)) }
     ensures known { (h : HostView O.Op O) (c : Command O.Op) →
         is_later c.key h.shown.holding.object.latest ≡ false →
-        host_turn O.rules h.shown (Request c)
-        ≡ record { state = h.shown.holding; sent = []; answers = [] } }
+        (acted_view O.rules h (Request c) ≡ h)
+        × (host_turn O.rules h.shown (Request c)
+        ≡ record { state = h.shown.holding; sent = []; answers = [] }) }
     ensures acts { (owner : ℕ → ℕ) (h : HostView O.Op O) (n : ℕ) (d : Deed O.Op)
         (k : Hosts O.Op O O.Reply) →
         IsHostOf h n k → IsInternal d →
@@ -68,6 +70,19 @@ pub fn calls_are_steps<O: Object>()
         StepsTo O.rules owner n (forgotten_view base h) k
         (record k { host = with_at k.host n (forgotten_host base (k.host n)) }) }
 {}
+
+/// Hosts that count their events have few enough of them, where they are seven at most (`few`): with nothing else to
+/// assume there is one order that is legal for what their clients saw, with what the object promises (`legal`). A host
+/// always is within what it may have (`Host::events`).
+pub fn counted_hosts<O: Object>()
+    ensures few { (k : Hosts O.Op O O.Reply) →
+        length k.members ≤ 7 → AreCounted k → total_events k ≤ most_events }
+    ensures legal { (owner : ℕ → ℕ) (members : List ℕ) (k : Hosts O.Op O O.Reply) →
+        AreHosts O.rules owner members k → length k.members ≤ 7 → AreCounted k →
+        (order : List (Command O.Op)) × IsLegal O.rules k.happenings order × O.promise order }
+{
+    every_cluster::<O>();
+}
 
 /// What is on its way between the hosts of a cluster is never unfit: where a host says so, it was not sent there.
 pub fn letters_fit<O: Object>()

@@ -3,8 +3,10 @@
 #![tactic(auto)]
 
 mod envelope;
+mod event_count;
 mod host;
 mod host_deed;
+mod host_fault;
 mod kept;
 mod laws;
 mod left;
@@ -15,7 +17,8 @@ mod receiving;
 pub use envelope::Envelope;
 pub use host::Host;
 pub use host_deed::HostDeed;
+pub use host_fault::HostFault;
 pub use kept::{Account, Kept};
-pub use laws::{calls_are_steps, hosts_stay, letters_fit};
+pub use laws::{calls_are_steps, counted_hosts, hosts_stay, letters_fit};
 pub use outbox::Outbox;
 pub use receipt::Receipt;

@@ -1,11 +1,14 @@
-ghost use Rattle.std.specs.Prelude.{◌≡◌, ◌<◌, ◌^◌, true, false, is_none, [], IfOk, OnErr};
+ghost use Rattle.std.specs.Prelude.{◌≡◌, ◌<◌, ◌+◌, ◌^◌, true, false, is_none, [], IsErrOf, IfOk, OnErr};
 ghost use Rattle.object.specs.declared.command.Command.{Command};
 ghost use Rattle.ballot.specs.Rests.{rest_of_body};
 ghost use Rattle.node.specs.Receiving.{IsFit};
 ghost use Rattle.cluster.specs.Envelopes.{IsLegible};
+ghost use Rattle.host.specs.Counting.{most_host_events, receipt_events};
 ghost use Rattle.host.specs.Receiving.{AsksForVote, Comes, ComesOf, put_aside};
 
 use crate::envelope::Envelope;
+use crate::event_count::EventCount;
+use crate::host_fault::HostFault;
 use crate::left::{Left, left_of};
 use crate::receipt::Receipt;
 use ballot::{Ballot, Letter, LetterBody};
@@ -72,8 +75,34 @@ fn has_next(ballot: Ballot) -> bool
     ballot.next_after(1, 0).is_some()
 }
 
+// A node reads an envelope and receives what is left of it from the base on, which is an event, or leaves it out.
+pub(crate) fn receive_counted<O: Object>(
+    node: &mut LeanNode<O>,
+    envelope: &Envelope<Command<O::Op>>,
+    base: u64,
+    events: &mut EventCount,
+    sent: &mut Vec<Letter<Command<O::Op>>>,
+) -> Result<Receipt, HostFault>
+    ensures ok { IfOk result (λ receipt. Comes receipt
+        (record { base = base; holding = node.old }) envelope.now
+        (record { base = base; holding = node.new }) sent.old.items sent.new.items) }
+    ensures now { IfOk result (λ receipt. put_aside receipt envelope.now ≡ []) }
+    ensures counts { IfOk result (λ receipt.
+        events.new ≡ events.old + receipt_events receipt) }
+    ensures exhausted { IsErrOf result HostFault.EventsExhausted → events.old ≡ most_host_events }
+    ensures err { OnErr result ((node.new ≡ node.old) × (sent.new.items ≡ sent.old.items)
+        × (events.new ≡ events.old)) }
+{
+    let next = events.next()?;
+    let receipt = receive_left(node, envelope, base, sent)?;
+    if receipt == Receipt::Received {
+        *events = next;
+    }
+    Ok(receipt)
+}
+
 // A node reads an envelope and receives what is left of it from the base on, or leaves it out.
-pub(crate) fn receive_left<O: Object>(
+fn receive_left<O: Object>(
     node: &mut LeanNode<O>,
     envelope: &Envelope<Command<O::Op>>,
     base: u64,

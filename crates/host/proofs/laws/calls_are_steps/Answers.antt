@@ -1,15 +1,16 @@
-use Rattle.std.proofs.Common.{◌≡◌, true, sym, subst}
+use Rattle.std.proofs.Common.{◌≡◌, true, cond, sym, ap, subst}
 use Rattle.object.specs.OnceOnly.{is_later}
 use Rattle.node.specs.declared.deed.Deed.TheVariants.{Request}
 use Rattle.cluster.specs.Hosts.{HostState}
 use Rattle.cluster.specs.Steps.{asks, acts}
-use Rattle.host.proofs.Steps.{known_stays, acting, hears_step, votes_lead, forgetting}
+use Rattle.host.proofs.Steps.{known_stays, internal_counts, acting, hears_step, votes_lead, forgetting}
 use Rattle.host.proofs.laws.calls_are_steps.Goals as goal
 
 pub returns-clause-asks : goal.returns-clause-asks
 returns-clause-asks g c = λ owner h n m d k is handed later.
     acting g.O.Object.rules n k owner h (Request d) is (asks n m d is.member handed
     (subst (λ (x : HostState _ _). is_later d.key x.holding.object.latest ≡ true) (sym is.shown) later))
+    (ap (λ b. cond b 1 0) later)
 
 pub returns-clause-known : goal.returns-clause-known
 returns-clause-known g c = λ h d known. known_stays g.O.Object.rules h d known
@@ -17,6 +18,7 @@ returns-clause-known g c = λ h d known. known_stays g.O.Object.rules h d known
 pub returns-clause-acts : goal.returns-clause-acts
 returns-clause-acts g c = λ owner h n d k is internal.
     acting g.O.Object.rules n k owner h d is (acts n d is.member internal)
+    (internal_counts h.shown.holding.object d internal)
 
 pub returns-clause-hears : goal.returns-clause-hears
 returns-clause-hears g c = λ owner r h z n p before now k is of to hears.

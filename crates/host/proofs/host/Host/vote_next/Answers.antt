@@ -1,4 +1,5 @@
 use Rattle.std.proofs.Common.{◌∷◌, ◌+◌, refl, sym, ap, ◌∙◌, subst, arith}
+use Rattle.host.specs.Counting.{receipt_events}
 use Rattle.host.specs.Receiving.{Comes}
 use Rattle.host.specs.Views.{HostView}
 use Rattle.host.proofs.Received.{at_front}
@@ -19,7 +20,9 @@ returns-clause-ok g c = (
   c.in_ok-receipt.ensures.now,
   subst
       (λ (h : HostView _ _). Comes c.in_ok-receipt.receipt h.shown c.in-Some.envelope.now
-      (record { base = c.self.inside.base; holding = c.receive_left.new.node })
-      c.args.sent.now.items c.receive_left.new.sent.items)
+      (record { base = c.self.inside.base; holding = c.receive_counted.new.node })
+      c.args.sent.now.items c.receive_counted.new.sent.items)
       c.self.view_is c.in_ok-receipt.ensures.ok,
+  c.in_ok-receipt.ensures.counts
+      ∙ ap (λ (h : HostView _ _). h.taken + receipt_events c.in_ok-receipt.receipt) c.self.view_is,
 )
