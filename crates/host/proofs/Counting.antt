@@ -1,12 +1,12 @@
 -- What each member's host counts is all that is counted.
-use Rattle.std.proofs.Common.{◌≡◌, ℕ, zero, suc, ◌+◌, ◌^◌, ◌<◌, ◌≤◌, ◌&&◌, Bool, true, false, cond, nat_le, List, length}
+use Rattle.std.proofs.Common.{◌≡◌, ℕ, zero, suc, ◌+◌, ◌^◌, ◌≤◌, Bool, true, false, cond, List, length}
 use Rattle.std.proofs.Common.{refl, sym, ap, subst, arith}
 use Rattle.std.proofs.lemmas.Bool.Decides.{nat_tests}
 use Rattle.ballot.specs.Members.{is_member}
 use Rattle.agreement.specs.Runs.{most_events}
 use Rattle.cluster.specs.Clusters.{Hosts, events_from, total_events}
 use Rattle.host.specs.Counting.{most_host_events}
-use Rattle.host.specs.Steps.{IsHostOf, AreCounted}
+use Rattle.host.specs.Steps.{AreCounted}
 
 -- the counts of members, and 0 for everyone else
 abbrev of_members : List ℕ → (ℕ → ℕ) → ℕ → ℕ

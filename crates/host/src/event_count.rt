@@ -46,7 +46,8 @@ impl EventCount {
     /// With one more, where that isn't too many.
     pub(crate) fn next(self) -> Result<EventCount, HostFault>
         ensures ok { IfOk result (λ next. next ≡ self + 1) }
-        ensures err { IfErr result (λ fault. (fault ≡ EventsExhausted) × (self ≡ most_host_events)) }
+        ensures err { IfErr result (λ fault.
+            (fault ≡ EventsExhausted) × (self ≡ most_host_events)) }
     {
         if self.count >= MOST {
             return Err(HostFault::EventsExhausted);
