@@ -2,5 +2,6 @@
 pub mod Counted
 pub mod FirstHeld
 pub mod Holders
+pub mod Lines
 pub mod Touched
 pub mod Owed

@@ -9,6 +9,7 @@ pub mod Best
 pub mod Woken
 pub mod Offers
 pub mod Holders
+pub mod HolderLines
 pub mod Effects
 pub mod Reserving
 pub mod Kicking

@@ -44,8 +44,8 @@ pub record IsCovered (offers : Offers) (jobs : List (ℕ × Job)) (j : ℕ × Jo
   pub not_after : ComesBefore pri_of_job j job → ⊥
   pub offered : IsOffered offers (place_of job)
 
--- each offer is a ready job; and each ready job of a tube that has a taker is offered, or another one of its tube that it
--- doesn't come before
+-- each offer is a ready job; and each ready job of a tube that has a taker is offered, or another one of its tube that
+-- it doesn't come before
 pub record HasOffers (offers : Offers) (takes : List ℕ → Bool) (jobs : List (ℕ × Job)) : Type 0 where
   pub ready : (p : ℕ × ℕ) → IsOffered offers p → IsReadyAt jobs p
   pub each : (j : ℕ × Job) → In j jobs → is_takable takes j ≡ true → IsCovered offers jobs j
@@ -60,7 +60,8 @@ CoverTakable tubes takes jobs = (j : ℕ × Job) → In j jobs → is_takable ta
 
 -- the job at an id, if its tube has a taker
 abbrev pub takable_at : (List ℕ → Bool) → ℕ → List (ℕ × Job) → Option Job
-takable_at takes id jobs = elim (value_at id jobs) [ None ↦ None | Some job ↦ if takes job.tube then Some job else None ]
+takable_at takes id jobs =
+    elim (value_at id jobs) [ None ↦ None | Some job ↦ if takes job.tube then Some job else None ]
 
 -- the next ready job of the tube of the job at an id
 abbrev pub next_beside : ℕ → List (ℕ × Job) → Option (ℕ × Job)

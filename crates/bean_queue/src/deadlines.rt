@@ -1,12 +1,11 @@
-ghost use Rattle.std.specs.Prelude.{◌≡◌, ◌^◌, ◌++◌, ◌&&◌, ℕ, IfOk, OnOk, OnErr, option_map};
+ghost use Rattle.std.specs.Prelude.{◌≡◌, ◌++◌, ◌&&◌, ℕ, IfOk, OnOk, OnErr};
 ghost use Rattle.object.specs.Lists.{In};
-ghost use Rattle.job_store.specs.Entries.{Rising};
-ghost use Rattle.session_store.specs.Sessions.{first_waiting, is_waiting};
+ghost use Rattle.session_store.specs.Sessions.{is_waiting};
 ghost use Rattle.bean_queue.specs.Queue.{holds_by};
-ghost use Rattle.bean_queue.specs.Holders.{holder_by, waits_at, waiting_holder, AreHolders, HasHolders, IsSomeHolder, StandAsOften};
+ghost use Rattle.bean_queue.specs.Holders.{waits_at, waiting_holder, AreHolders, IsSomeHolder, StandAsOften};
 
 use job_store::{JobMap, State};
-use session_store::{SessionState, first};
+use session_store::SessionState;
 use std::alloc::{AllocError, Global};
 use std::collections::BTreeMap;
 
@@ -21,28 +20,10 @@ pub fn holds_by<M: JobMap>(jobs: &M, session: u32, second: u64) -> bool
 }
 
 /// Whether the session of this number waits and has a job that is due by this second.
-fn is_holder<M: JobMap>(jobs: &M, number: u32, session: &SessionState, second: u64) -> bool
+pub fn is_holder<M: JobMap>(jobs: &M, number: u32, session: &SessionState, second: u64) -> bool
     ensures { result ≡ (is_waiting session.now && holds_by number second (M.entries jobs.now)) }
 {
     session.wait.is_some() && holds_by(jobs, number, second)
-}
-
-/// The session of this number, if it waits and has a job that is due by this second.
-fn holder_by<'a, M: JobMap>(
-    jobs: &M,
-    sessions: &'a BTreeMap<u32, SessionState>,
-    number: u32,
-    second: u64,
-) -> Option<(u32, &'a SessionState)>
-    ensures { option_map (λ e. (e.0, e.1.now)) result
-        ≡ holder_by second (M.entries jobs.now) sessions.now.entries number }
-{
-    let session = sessions.get(&number)?;
-    if is_holder(jobs, number, session, second) {
-        Some((number, session))
-    } else {
-        None
-    }
 }
 
 /// Whether the session of this number waits.
@@ -98,25 +79,4 @@ pub fn holders_by<M: JobMap>(
         next = jobs.due_after(second, (job.state.due(), id));
     }
     Ok(numbers)
-}
-
-/// The waiting session of the least rank that has a job due by this second. It is looked for among these numbers.
-pub fn first_holder<'a, M: JobMap>(
-    jobs: &M,
-    sessions: &'a BTreeMap<u32, SessionState>,
-    numbers: &[u32],
-    second: u64,
-) -> Option<(u32, &'a SessionState)>
-    requires rising { Rising 0 (2 ^ 32) sessions.now.entries }
-    requires holders { HasHolders numbers.now second (M.entries jobs.now) sessions.now.entries }
-    ensures { option_map (λ e. (e.0, e.1.now)) result
-        ≡ first_waiting (λ e. holds_by e.0 second (M.entries jobs.now)) sessions.now.entries }
-{
-    let mut best = None;
-    for number in numbers {
-        if let Some(holder) = holder_by(jobs, sessions, *number, second) {
-            best = first(best, holder);
-        }
-    }
-    best
 }

@@ -6,6 +6,7 @@ mod counts;
 mod deadlines;
 mod figures;
 mod group;
+mod holder_line;
 mod job_draft;
 mod job_report;
 mod laws;

@@ -1,4 +1,4 @@
-ghost use Rattle.std.specs.Prelude.{◌≡◌, ◌<◌, ℕ, IfOk, OnOk, IfSome, IfNone, option_map, option_copied};
+ghost use Rattle.std.specs.Prelude.{◌≡◌, ◌<◌, ℕ, IsSome, IfOk, OnOk, OnErr, IfSome, IfNone, option_map, option_copied};
 ghost use Rattle.std.specs.Map.{keys_of};
 ghost use Rattle.std.specs.BTreeSet.{IsLowerBound, IsEmpty, btree_set_len};
 ghost use Rattle.job_store.specs.Least.{least};
@@ -16,7 +16,7 @@ use std::alloc::{AllocError, Global};
 use std::collections::BTreeSet;
 
 /// What tubes offer to the sessions that wait, while one job is given after another: each the first of its ready jobs,
-/// by priority and id. Nobody begins to wait meanwhile, so a tube that has no taker any more needn't be looked at again.
+/// by priority and id. Nobody begins to wait meanwhile, so a tube that has no taker any more isn't looked at again.
 #[derive(Drop)]
 pub struct Offers {
     places: BTreeSet<(u32, u64)>,
@@ -56,8 +56,9 @@ impl Offers {
 
     /// Offers a job too, if there is one.
     fn add(&mut self, offer: Option<(u64, &Job)>) -> Result<(), AllocError>
-        ensures { OnOk result
+        ensures ok { OnOk result
             (OffersToo self.old self.new (option_map (λ e. (e.0, e.1.now)) offer.entry)) }
+        ensures err { OnErr result (IsSome offer.entry) }
     {
         if let Some((id, job)) = offer {
             self.places.insert((job.pri, id))?;
@@ -84,8 +85,8 @@ impl Offers {
         Some(*place)
     }
 
-    /// The most urgent of the ready jobs whose tubes have a taker. It stays on offer. Those of tubes that have none, which
-    /// are found on the way, do not.
+    /// The most urgent of the ready jobs whose tubes have a taker. It stays on offer. Those of tubes that have none,
+    /// which are found on the way, do not.
     pub fn next<'a, M: JobMap>(
         &mut self,
         jobs: &'a M,
@@ -127,7 +128,7 @@ impl Offers {
     }
 }
 
-/// What these tubes offer, among which are all that have a taker. It takes no memory where none has one.
+/// What these tubes offer, among which are all that have a taker. It takes no memory where there is nothing to give.
 pub fn offers_of<M: JobMap>(
     alloc: Global,
     jobs: &M,
@@ -141,6 +142,9 @@ pub fn offers_of<M: JobMap>(
     requires fronts { AreFronts fronts.old sessions.now.now }
     ensures offers { IfOk result (λ offers. HasOffers offers
         (has_taker (keys_of pauses.now.now.pauses) sessions.now.now) (M.entries jobs.now)) }
+    ensures err { OnErr result
+        (IsSome (least (is_takable (has_taker (keys_of pauses.now.now.pauses) sessions.now.now))
+        pri_of_job (M.entries jobs.now))) }
     ensures fronts { AreFronts fronts.new sessions.now.now }
 {
     let mut offers = Offers::new(alloc);

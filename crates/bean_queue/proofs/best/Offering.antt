@@ -1,6 +1,6 @@
 -- What is offered, as offers come and go.
 use Rattle.std.proofs.Common.{◌≡◌, ℕ, suc, ◌+◌, ◌<◌, true, false, cond, ◌⊎◌, inl, inr, List, [], ◌∷◌, Bool, Option, Some, None}
-use Rattle.std.proofs.Common.{IfSome, option_map, length, get_or, drop, drop-cons, refl, sym, ap, ap₂, subst, ◌∙◌, arith, true≢false}
+use Rattle.std.proofs.Common.{IfSome, is_some, option_map, length, get_or, drop, drop-cons, refl, sym, ap, ap₂, subst, ◌∙◌, arith, true≢false}
 use Rattle.std.proofs.lemmas.Bool.{and_parts, and_from, cases_eq}
 use Rattle.std.specs.List.{list_any}
 use Rattle.std.specs.Ordering.{nat_cmp, ordering_then, is_eq, is_gt}
@@ -10,7 +10,7 @@ use Rattle.object.specs.Lists.{In}
 use Rattle.job_store.specs.declared.job.Job.{Job}
 use Rattle.job_store.specs.Entries.{Rising, value_at, altered}
 use Rattle.job_store.specs.EntryLaws.{cmp_equal, cmp_greater, value_at-In, value_at-altered_same, value_at-altered_other}
-use Rattle.job_store.specs.Least.{IsLeast, NonePasses}
+use Rattle.job_store.specs.Least.{IsLeast, NonePasses, least}
 use Rattle.job_store.specs.LookUps.{first_ready, pri_of_job, is_among}
 use Rattle.job_store.specs.States.{is_ready, reserved_job}
 use Rattle.job_store.proofs.least.Least.{same_entry, never_between, among-member}
@@ -22,7 +22,7 @@ use Rattle.session_store.proofs.TubeSets.{stays_but}
 use Rattle.bean_queue.specs.declared.offers.Offers.{Offers}
 use Rattle.bean_queue.specs.Offers.{offer_cmp, place_of, is_takable, takable_at, next_beside, IsOffered, IsReadyAt, IsCovered, HasOffers}
 use Rattle.bean_queue.specs.Queue.{QueueState, paused_tubes}
-use Rattle.bean_queue.specs.TurnLaws.{next_job-in}
+use Rattle.bean_queue.specs.TurnLaws.{next_job-in, least-none}
 use Rattle.bean_queue.specs.Turns.{next_job}
 use Rattle.bean_queue.specs.Woken.{has_taker}
 use Rattle.bean_queue.specs.Offers.{CoverTakable, OffersJobsOf, OffersToo, OffersInstead, Withdraws}
@@ -47,7 +47,7 @@ no_place : (p : ℕ × ℕ) → None ≡ Some p → ⊥
 no_place p e = cc
 
 -- a place that comes before another is the smaller
-is_above : (p q : ℕ × ℕ) → (q.0 < p.0) ⊎ ((q.0 ≡ p.0) × (q.1 < p.1)) → is_gt (offer_cmp p q) ≡ true
+pub is_above : (p q : ℕ × ℕ) → (q.0 < p.0) ⊎ ((q.0 ≡ p.0) × (q.1 < p.1)) → is_gt (offer_cmp p q) ≡ true
 is_above p q (inl below) = ap (λ o. is_gt (ordering_then o (nat_cmp p.1 q.1))) (cmp_greater p.0 q.0 below)
 is_above p q (inr both) = ap₂ (λ a b. is_gt (ordering_then a b)) (cmp_equal p.0 q.0 (sym both.0)) (cmp_greater p.1 q.1 both.1)
 
@@ -271,6 +271,23 @@ module _ (takes : List ℕ → Bool) (jobs : List (ℕ × Job)) (hi : ℕ) (r : 
               }
             ];
       }
+
+-- where a tube that has a taker has a ready job, one is takable
+pub some-takable : (takes : List ℕ → Bool) (jobs : List (ℕ × Job)) (tube : List ℕ) (o : Option (ℕ × Job)) → takes tube ≡ true
+    → o ≡ first_ready tube jobs → is_some o ≡ true → is_some (least (is_takable takes) pri_of_job jobs) ≡ true
+some-takable takes jobs tube None t e some = cc
+some-takable takes jobs tube (Some d) t e some =
+    let best = best_is (tube ∷ []) jobs d (sym e) in
+    let tests = and_parts (is_ready d.1.state) (is_among d.1.tube (tube ∷ [])) best.passes in
+    elim (least (is_takable takes) pri_of_job jobs) as (λ o. least (is_takable takes) pri_of_job jobs ≡ o → is_some o ≡ true) [
+      | None ↦ λ none. absurd (least-none (is_takable takes) pri_of_job jobs d none best.member
+          (and_from (is_ready d.1.state) (takes d.1.tube) tests.0 (ap takes (in_one tube d.1.tube tests.1) ∙ t)))
+      | Some c ↦ λ _. refl
+    ] refl
+
+pub shown-some : {A B : Type 0} (show : A → B) (o : Option A) → is_some o ≡ true → is_some (option_map show o) ≡ true
+shown-some show None e = cc
+shown-some show (Some a) e = refl
 
 -- Offers that are gathered, tube by tube
 

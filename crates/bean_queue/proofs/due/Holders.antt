@@ -1,31 +1,25 @@
--- Sessions that have a job due by a second: those that were found, and the first of them.
+-- Sessions that have a job due by a second, which are found.
 use Rattle.std.proofs.Common.{◌≡◌, ℕ, ◌+◌, ◌-◌, ◌*◌, ◌^◌, ◌<◌, ◌≤◌, Bool, true, false, cond, ◌&&◌, ◌||◌, ◌==◌, ◌⊎◌, inl}
-use Rattle.std.proofs.Common.{inr, List, [], ◌∷◌, ◌++◌, filter, length, Option, Some, None, IfSome, filter_map, nat_le}
+use Rattle.std.proofs.Common.{inr, List, [], ◌∷◌, ◌++◌, filter, length, Option, Some, None, IfSome, nat_le}
 use Rattle.std.proofs.Common.{nat_lt, refl, sym, ap, ap₂, subst, ◌∙◌, arith, eq-eqb, eqb-true, ltb-true, lt-ltb}
 use Rattle.std.proofs.Common.{true≢false, append-nil, unwrap_or}
-use Rattle.std.proofs.lemmas.Bool.{cases_Bool, cond-true, cases_order, and_parts, and_from, and_left, and_right, or_cases, or_left, or_right, leb-true}
+use Rattle.std.proofs.lemmas.Bool.{cases_Bool, cases_order, and_parts, and_from, and_left, and_right, or_cases, or_left, or_right, leb-true}
 use Rattle.std.proofs.Math.Bool.{and-true}
 use Rattle.object.specs.Lists.{In}
-use Rattle.object.specs.declared.command.Answer.{Answer}
 use Rattle.job_store.specs.declared.job.Job.{Job}
 use Rattle.job_store.specs.declared.state.State.{State}
-use Rattle.job_store.specs.Entries.{Rising, value_at}
-use Rattle.job_store.specs.EntryLaws.{value_at-In, value_at-found, value_at-below}
-use Rattle.job_store.specs.Least.{ComesBefore, comes_before, least}
+use Rattle.job_store.specs.Entries.{Rising}
+use Rattle.job_store.specs.EntryLaws.{value_at-In, value_at-below}
+use Rattle.job_store.specs.Least.{ComesBefore, comes_before}
 use Rattle.job_store.specs.LookUps.{is_after, due_by, due_after, due_of_job, first_due, first_due_after}
 use Rattle.job_store.specs.States.{is_due, is_held, due_of}
 use Rattle.job_store.proofs.least.Least.{IsAnswer, answer, same_entry}
 use Rattle.job_store.proofs.shelving.Shelving.{in-front, in-last}
 use Rattle.session_store.specs.declared.session.SessionState.{SessionState}
-use Rattle.session_store.specs.Sessions.{first_waiting, is_waiting, new_session, wait_rank, with_wait_ended}
-use Rattle.session_store.proofs.Found.{least_alike, mapped-in, mapped-from}
-use Rattle.bean_words.specs.declared.reply.Reply.{Reply}
-use Rattle.bean_queue.specs.Holders.{holder_by, waits_at, waiting_holder, times_noted, has_due, AreHolders, HasHolders, IsSomeHolder, StandAsOften}
-use Rattle.bean_queue.specs.Queue.{QueueState, holds_by}
-use Rattle.bean_queue.specs.TurnLaws.{IsTold, deadline_turn-is}
-use Rattle.bean_queue.specs.Turns.{QueueTurn, IsTurn, told_turn, deadline_turn}
+use Rattle.session_store.specs.Sessions.{is_waiting, new_session}
+use Rattle.bean_queue.specs.Holders.{waits_at, waiting_holder, times_noted, has_due, AreHolders, HasHolders, IsSomeHolder, StandAsOften}
+use Rattle.bean_queue.specs.Queue.{holds_by}
 use Rattle.bean_queue.specs.WaitLaws.{in-append}
-use Rattle.bean_queue.proofs.calm.Calm.{ended-calmer}
 use Rattle.bean_queue.proofs.due.Counted.{one_if, chosen-last, chosen-alike, chosen-none, chosen-more}
 
 -- A session has a due job where it is the holder of one
@@ -385,68 +379,3 @@ pub has-holders : (numbers : List ℕ) (second hi : ℕ) (jobs : List (ℕ × Jo
 has-holders numbers second hi jobs sessions r holders w i waits holds =
     let seen : waits_at sessions w.0 ≡ is_waiting w.1 = ap (λ o. is_waiting (unwrap_or o new_session)) (value_at-In 0 hi sessions w r i) in
     (holders w.0).1 (and_from (waits_at sessions w.0) (holds_by w.0 second jobs) (seen ∙ waits) holds)
-
--- The first of those that were found
-
-holder-is : (second : ℕ) (jobs : List (ℕ × Job)) (sessions : List (ℕ × SessionState)) (number : ℕ)
-    (e : ℕ × SessionState) → holder_by second jobs sessions number ≡ Some e → In e sessions
-    × ((is_waiting e.1 && holds_by e.0 second jobs) ≡ true)
-holder-is second jobs sessions number e seen =
-    elim (value_at number sessions) as (λ o. value_at number sessions ≡ o
-    → (elim o as (λ o. Option (ℕ × SessionState)) [
-      | None ↦ None
-      | Some c ↦ cond
-          (is_waiting c && holds_by number second jobs) (Some (number, c)) None
-    ]) ≡ Some e → In e sessions
-    × ((is_waiting e.1 && holds_by e.0 second jobs) ≡ true)) [
-      | None ↦ λ v h. cc
-      | Some c ↦ λ v.
-          elim (is_waiting c && holds_by number second jobs) as (λ b. (is_waiting c && holds_by number second jobs) ≡ b
-          → cond b (Some (number, c)) None ≡ Some e → In e sessions
-          × ((is_waiting e.1 && holds_by e.0 second jobs) ≡ true)) [
-            | false ↦ λ t h. cc
-            | true ↦ λ t h.
-                let same : (number, c) ≡ e = cc in
-                let there = value_at-found number sessions c v in
-                let it : there.0 ≡ (number, c) = λ i. (there.2 i, there.3 i) in
-                subst (λ (d : ℕ × SessionState). In d sessions × ((is_waiting d.1 && holds_by d.0 second jobs) ≡ true))
-                same (subst (λ d. In d sessions) it there.1, t)
-          ] refl
-    ] refl seen
-
-holder-at : (second hi : ℕ) (jobs : List (ℕ × Job)) (sessions : List (ℕ × SessionState)) (e : ℕ × SessionState)
-    → Rising 0 hi sessions → In e sessions → (is_waiting e.1 && holds_by e.0 second jobs) ≡ true
-    → holder_by second jobs sessions e.0 ≡ Some e
-holder-at second hi jobs sessions e r i t =
-    let seen : Option SessionState → Option (ℕ × SessionState) =
-    λ o. elim o as (λ _. Option (ℕ × SessionState)) [
-      | None ↦ None
-      | Some c ↦ cond
-          (is_waiting c && holds_by e.0 second jobs) (Some (e.0, c)) None
-    ] in
-    ap seen (value_at-In 0 hi sessions e r i) ∙ cond-true (is_waiting e.1 && holds_by e.0 second jobs) (Some (e.0, e.1)) None t
-
-pub holders-first : (numbers : List ℕ) (second hi : ℕ) (jobs : List (ℕ × Job)) (sessions : List (ℕ × SessionState))
-    → Rising 0 hi sessions → HasHolders numbers second jobs sessions
-    → least (λ e. true) wait_rank (filter_map (holder_by second jobs sessions) numbers)
-    ≡ first_waiting (λ e. holds_by e.0 second jobs) sessions
-holders-first numbers second hi jobs sessions r holders =
-    least_alike (λ e. is_waiting e.1 && holds_by e.0 second jobs) (λ e. true) wait_rank sessions (filter_map (holder_by second jobs sessions) numbers) 0 hi r
-    (λ e i t. let from = mapped-from (holder_by second jobs sessions) e numbers i in holder-is second jobs sessions from.0 e from.2)
-    (λ e i t.
-    let both = and_parts (is_waiting e.1) (holds_by e.0 second jobs) t in
-    (mapped-in (holder_by second jobs sessions) e.0 e numbers (holders e i both.0 both.1) (holder-at second hi jobs sessions e r i t), refl))
-
--- Turns
-
--- a turn ends a wait, and changes nothing else
-pub holders-turn : (numbers : List ℕ) (s t : QueueState) (xs ys : List (Answer Reply)) (more : Bool)
-    → IsTurn deadline_turn s t xs ys more → HasHolders numbers (s.now + 1) s.jobs s.sessions
-    → HasHolders numbers (t.now + 1) t.jobs t.sessions
-unfolding told_turn
-holders-turn numbers s t xs ys false i holders = subst (λ (u : QueueState). HasHolders numbers (u.now + 1) u.jobs u.sessions) (sym i.1) holders
-holders-turn numbers s t xs ys true i holders =
-    let was : IsTold Reply.DeadlineSoon s i.0 = subst (λ o. IfSome o (IsTold Reply.DeadlineSoon s)) i.1 (deadline_turn-is s) in
-    let after : HasHolders numbers (s.now + 1) s.jobs (with_wait_ended was.session.0 s.sessions) =
-    λ w j waits holds. holders w (ended-calmer was.session.0 s.sessions w j waits) waits holds in
-    subst (λ (u : QueueState). HasHolders numbers (u.now + 1) u.jobs u.sessions) (sym (i.2 ∙ ap (λ (u : QueueTurn). u.state) was.made)) after

@@ -6,9 +6,10 @@ ghost use Rattle.bean_queue.specs.Turns.{next_job, serve_turn, deadline_turn, ti
 ghost use Rattle.bean_queue.specs.Calls.{DraftsOutcome, DraftsTurn};
 ghost use Rattle.bean_queue.specs.Woken.{Covers};
 ghost use Rattle.bean_queue.specs.Offers.{OffersJobsOf};
-ghost use Rattle.bean_queue.specs.Holders.{HasHolders};
+ghost use Rattle.bean_queue.specs.HolderLines.{HasAllHolders};
 
-use crate::deadlines::{first_holder, holders_by};
+use crate::deadlines::holders_by;
+use crate::holder_line::HolderLine;
 use crate::logic::Logic;
 use crate::offers::{Offers, offers_of};
 use bean_words::{Name, Reply};
@@ -52,8 +53,8 @@ impl<M: JobMap> Logic<M> {
         offers.next(self.jobs.map(), &self.sessions, &self.pauses, fronts)
     }
 
-    /// Gives the next job to the session whose turn it is, and tells whether there was one. Then the next ready job of its
-    /// tube is offered.
+    /// Gives the next job to the session whose turn it is, and tells whether there was one. Then the next ready job of
+    /// its tube is offered.
     fn serve_one(
         &mut self,
         offers: &mut Offers,
@@ -107,25 +108,22 @@ impl<M: JobMap> Logic<M> {
         Ok(())
     }
 
-    /// Tells the first waiting session with a job due within a second so, and whether there was one. Its number is
-    /// among these.
+    /// Tells the first waiting session with a job due within a second so, and whether there was one. It stands in this
+    /// line.
     fn tell_deadline(
         &mut self,
-        holders: &[u32],
+        line: &mut HolderLine,
         answers: &mut Vec<Answer<Reply>>,
     ) -> Result<bool, AllocError>
-        requires { HasHolders holders.now (self.old.now.now + 1) self.old.now.jobs
+        requires { HasAllHolders line.old (self.old.now.now + 1) self.old.now.jobs
             self.old.now.sessions }
-        ensures { DraftsTurn deadline_turn self.old self.new answers.old.items answers.new.items
-            result }
+        ensures turn { DraftsTurn deadline_turn self.old self.new answers.old.items
+            answers.new.items result }
+        ensures left { IfOk result (λ more. more ≡ true → HasAllHolders line.new
+            (self.new.now.now + 1) self.new.now.jobs self.new.now.sessions) }
     {
         let second = self.counters.now + 1;
-        let Some((session, holder)) = first_holder(
-            self.jobs.map(),
-            self.sessions.map(),
-            holders,
-            second,
-        ) else {
+        let Some((session, holder)) = line.next(self.jobs.map(), self.sessions.map(), second) else {
             return Ok(false);
         };
         let to = Key {
@@ -151,7 +149,8 @@ impl<M: JobMap> Logic<M> {
     {
         let second = self.counters.now + 1;
         let holders = holders_by(alloc, self.jobs.map(), self.sessions.map(), second)?;
-        'turns: while self.tell_deadline(holders.as_slice(), answers)? {}
+        let mut line = HolderLine::of(alloc, self.sessions.map(), holders.as_slice())?;
+        'turns: while self.tell_deadline(&mut line, answers)? {}
         Ok(())
     }
 

@@ -1,12 +1,12 @@
 use Rattle.std.proofs.Common.{◌≡◌, ◌+◌, ◌++◌}
-use Rattle.bean_queue.specs.Holders.{HasHolders}
+use Rattle.bean_queue.specs.HolderLines.{HasAllHolders}
 use Rattle.bean_queue.specs.Turns.{deadline_turn, all_turns}
 use Rattle.bean_queue.proofs.best.Served.{waiters}
 use Rattle.bean_queue.proofs.logic.Logic.tell_deadlines.Given as goal
 
 abbrev pub invariant-turns : goal.invariant-turns
 invariant-turns g l = record {
-  holders : HasHolders l.holders.items (l.self.now.now + 1) l.self.now.jobs l.self.now.sessions;
+  line : HasAllHolders l.line (l.self.now.now + 1) l.self.now.jobs l.self.now.sessions;
   state : (all_turns deadline_turn l.self.now).state ≡ (all_turns deadline_turn l.fn.self.now).state;
   answers : l.answers.items ++ (all_turns deadline_turn l.self.now).answers ≡ l.fn.answers.items ++ (all_turns deadline_turn l.fn.self.now).answers;
   before : l.self.before ≡ l.fn.self.before;
