@@ -17,7 +17,7 @@ PASSED = re.compile(r"^test result: ok\. (\d+) passed; 0 failed; 0 ignored; 0 fi
 IS_TEST = re.compile(r"^#\[test\]$", re.MULTILINE)
 
 # So many seconds a crate may run, once it is built.
-LONGEST_RUN = 900
+LONGEST_RUN = 1_500
 
 # The interpreter, which `rt try` runs beside, ends after one step.
 QUICK = ("--steps", 1, "--seconds", LONGEST_RUN)
