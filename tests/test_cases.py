@@ -31,8 +31,8 @@ SESSION_PIECES = (1, 4096)
 RUNS = ("run --nodes 1 --seed 0", "run --nodes 3 --seed 1", "run --nodes 7 --seed 18446744073709551615")
 RUN_PIECES = (3,)
 
-# No write is longer than this, where a file has no room for more.
-MOST_WRITTEN = 1 << 20
+# So many seconds a run may take: built without a proof, the program needs half a minute for an hour of a client's waits.
+LONGEST_RUN = 600
 
 
 def runs_of(case: case_files.Case) -> Iterator[tuple[str, int]]:
@@ -103,7 +103,7 @@ class Cases(Case):
         if room is not None:
             # the signal of such a write stays ignored, as it is in this process
             how |= {"preexec_fn": lambda: resource.setrlimit(resource.RLIMIT_FSIZE, (room, room)), "restore_signals": False}
-        return subprocess.run([harness.BEANPAX, *words], timeout=PATIENCE, check=False, **how)
+        return subprocess.run([harness.BEANPAX, *words], timeout=LONGEST_RUN, check=False, **how)
 
     def output(self, stack: contextlib.ExitStack, name: str, room: int | None):
         """A pipe, or where there isn't room for all a file."""
