@@ -265,6 +265,12 @@ class Server:
     def count_threads(self) -> int:
         return len(os.listdir(f"/proc/{self.process.pid}/task"))
 
+    def processor_seconds(self) -> float:
+        """The processor time that it used so far, of which the system counts hundredths of a second."""
+        text = Path(f"/proc/{self.process.pid}/stat").read_text(encoding="ascii")
+        user, system = text.rpartition(")")[2].split()[11:13]
+        return (int(user) + int(system)) / os.sysconf("SC_CLK_TCK")
+
     def resident_bytes(self) -> int:
         """How much memory it has."""
         status = Path(f"/proc/{self.process.pid}/status").read_text(encoding="ascii")

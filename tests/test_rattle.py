@@ -71,7 +71,7 @@ class Layers(Case):
         self.note(f"{len(names)} files")
 
     def test_hosts(self):
-        """Hosts whose letters are lost, repeated and reordered answer by one order, as worked out and as drawn."""
+        """Hosts that crash, are away and lose letters answer by one order, as worked out and as drawn."""
         self.run_tests("test_host")
 
     def test_drawn_inputs(self):

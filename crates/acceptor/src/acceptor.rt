@@ -63,12 +63,20 @@ impl<C: Value> Acceptor<C> {
         ensures report { IfOk result (λ answer. IsReport self.old.accepted answer.1.items) }
     {
         let report = self.report()?;
+        Ok((self.promise(ballot), report))
+    }
+
+    /// Promises the ballot where it is higher, without a report, and says which one is promised now.
+    pub fn promise(&mut self, ballot: Ballot) -> Ballot
+        ensures state { self.new ≡ after_p1a self.old ballot }
+        ensures promised { result ≡ higher self.old.promised ballot }
+    {
         let promised = match self.promised {
             None => ballot,
             Some(old) => { if old < ballot { ballot } else { old } }
         };
         self.promised = Some(promised);
-        Ok((promised, report))
+        promised
     }
 
     /// Hears a P2a: accepts the pvalue where its ballot is the promised one, and answers with the ballot of

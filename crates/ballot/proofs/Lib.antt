@@ -9,3 +9,4 @@ pub mod Rests
 pub mod Bounds
 pub mod Filters
 pub mod Turns
+pub mod Reports

@@ -10,3 +10,4 @@ pub mod OrderLaws
 pub mod Slots
 pub mod SlotRows
 pub mod Rests
+pub mod Left

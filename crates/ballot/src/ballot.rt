@@ -38,6 +38,27 @@ impl Ballot {
         }
     }
 
+    /// Its round.
+    pub fn round(&self) -> u64
+        ensures { result ≡ self.now.round }
+    {
+        self.round
+    }
+
+    /// The node whose leader it is of.
+    pub fn node(&self) -> u8
+        ensures { result ≡ self.now.node }
+    {
+        self.node
+    }
+
+    /// The boot of that node.
+    pub fn boot(&self) -> u64
+        ensures { result ≡ self.now.boot }
+    {
+        self.boot
+    }
+
     /// The ballot of the next round, of this node and boot, where it is within the limits.
     pub fn next_after(&self, node: u8, boot: u64) -> Option<Ballot>
         ensures { SomeIff result (IsBallot (next_after self.now node boot))

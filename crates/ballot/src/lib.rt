@@ -3,6 +3,7 @@
 
 mod ballot;
 mod laws;
+mod left;
 mod letter;
 mod member_set;
 mod members;
@@ -13,6 +14,7 @@ mod slot_row;
 
 pub use ballot::Ballot;
 pub use laws::{ballot_laws, ballot_order, less_is_below, majorities_share_a_member};
+pub use left::{Left, left_of};
 pub use letter::{Letter, LetterBody, send_to_all};
 pub use member_set::MemberSet;
 pub use members::Members;

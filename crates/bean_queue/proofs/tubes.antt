@@ -4,3 +4,5 @@ pub mod TubeLists
 pub mod Named
 pub mod Settled
 pub mod Listed
+pub mod Turning
+pub mod Staying

@@ -1,21 +1,12 @@
 -- Whom a tick may have to tell of a job that is due soon.
-use Rattle.std.specs.Prelude.{◌≡◌, ◌↔◌, ℕ, Bool, true, ◌&&◌, List, [], ◌∷◌, filter, length, Option, None, Some, ◌==◌, nat_le, if◌then◌else◌}
+use Rattle.std.specs.Prelude.{◌≡◌, ◌↔◌, ℕ, Bool, true, ◌&&◌, List, [], ◌∷◌, filter, length, ◌==◌, nat_le, if◌then◌else◌}
 use Rattle.object.specs.Lists.{In}
 use Rattle.job_store.specs.declared.job.Job.{Job}
 use Rattle.job_store.specs.declared.state.State.{State}
-use Rattle.job_store.specs.Entries.{value_at}
 use Rattle.job_store.specs.States.{is_held, due_of}
 use Rattle.session_store.specs.declared.session.SessionState.{SessionState}
 use Rattle.session_store.specs.Sessions.{is_waiting, session_of}
 use Rattle.bean_queue.specs.Queue.{holds_by}
-
--- the session of this number, if it waits and has a job that is due by this second
-abbrev pub holder_by : ℕ → List (ℕ × Job) → List (ℕ × SessionState) → ℕ → Option (ℕ × SessionState)
-holder_by second jobs sessions number =
-    elim (value_at number sessions) [
-      | None ↦ None
-      | Some c ↦ if is_waiting c && holds_by number second jobs then Some (number, c) else None
-    ]
 
 -- each waiting session that has a job due by this second has its number among these
 abbrev pub HasHolders : List ℕ → ℕ → List (ℕ × Job) → List (ℕ × SessionState) → Type 0

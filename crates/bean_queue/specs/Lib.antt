@@ -7,6 +7,7 @@ pub mod Rows
 pub mod Turns
 pub mod Best
 pub mod Woken
+pub mod Staying
 pub mod Offers
 pub mod Holders
 pub mod HolderLines

@@ -18,8 +18,8 @@ abbrev pub offer_cmp : ℕ × ℕ → ℕ × ℕ → Ordering
 offer_cmp p q = ordering_then (nat_cmp p.0 q.0) (nat_cmp p.1 q.1)
 
 -- the place of a job: its priority and its id
-abbrev pub place_of : ℕ × Job → ℕ × ℕ
-place_of e = (e.1.pri, e.0)
+abbrev pub offer_place : ℕ × Job → ℕ × ℕ
+offer_place e = (e.1.pri, e.0)
 
 -- a job at this place is offered
 abbrev pub IsOffered : Offers → ℕ × ℕ → Type 0
@@ -37,18 +37,18 @@ pub record IsReadyAt (jobs : List (ℕ × Job)) (p : ℕ × ℕ) : Type 0 where
   pub pri : p.0 ≡ job.pri
 
 -- a job of the same tube is offered, before which this one doesn't come
-pub record IsCovered (offers : Offers) (jobs : List (ℕ × Job)) (j : ℕ × Job) : Type 0 where
+pub record HasOffer (offers : Offers) (jobs : List (ℕ × Job)) (j : ℕ × Job) : Type 0 where
   pub job : ℕ × Job
   pub there : In job jobs
   pub tube : job.1.tube ≡ j.1.tube
   pub not_after : ComesBefore pri_of_job j job → ⊥
-  pub offered : IsOffered offers (place_of job)
+  pub offered : IsOffered offers (offer_place job)
 
 -- each offer is a ready job; and each ready job of a tube that has a taker is offered, or another one of its tube that
 -- it doesn't come before
 pub record HasOffers (offers : Offers) (takes : List ℕ → Bool) (jobs : List (ℕ × Job)) : Type 0 where
   pub ready : (p : ℕ × ℕ) → IsOffered offers p → IsReadyAt jobs p
-  pub each : (j : ℕ × Job) → In j jobs → is_takable takes j ≡ true → IsCovered offers jobs j
+  pub each : (j : ℕ × Job) → In j jobs → is_takable takes j ≡ true → HasOffer offers jobs j
 
 -- the same of a queue's jobs
 abbrev pub OffersJobsOf : Offers → QueueState → Type 0
@@ -69,7 +69,7 @@ next_beside id jobs = elim (value_at id jobs) [ None ↦ None | Some job ↦ fir
 
 -- the job that there may be is offered too
 abbrev pub OffersToo : Offers → Offers → Option (ℕ × Job) → Type 0
-OffersToo old new o = (p : ℕ × ℕ) → IsOffered new p ↔ (IsOffered old p ⊎ (option_map place_of o ≡ Some p))
+OffersToo old new o = (p : ℕ × ℕ) → IsOffered new p ↔ (IsOffered old p ⊎ (option_map offer_place o ≡ Some p))
 
 -- no job at this place is offered any more
 abbrev pub Withdraws : Offers → Offers → ℕ × ℕ → Type 0
@@ -78,4 +78,4 @@ Withdraws old new place = (p : ℕ × ℕ) → IsOffered new p ↔ (IsOffered ol
 -- no job at this place is offered any more, but the one that there may be
 abbrev pub OffersInstead : Offers → Offers → ℕ × ℕ → Option (ℕ × Job) → Type 0
 OffersInstead old new place o =
-    (p : ℕ × ℕ) → IsOffered new p ↔ ((IsOffered old p × (p ≡ place → ⊥)) ⊎ (option_map place_of o ≡ Some p))
+    (p : ℕ × ℕ) → IsOffered new p ↔ ((IsOffered old p × (p ≡ place → ⊥)) ⊎ (option_map offer_place o ≡ Some p))

@@ -1,11 +1,10 @@
 -- The tubes in which there may be a job for a session that waits, where there was none before.
-use Rattle.std.specs.Prelude.{◌≡◌, ℕ, Bool, true, not, ◌&&◌, ◌⊎◌, List, [], ◌∷◌, Option, None, Some, filter_map, is_some, if◌then◌else◌}
+use Rattle.std.specs.Prelude.{◌≡◌, ℕ, Bool, true, not, ◌&&◌, ◌⊎◌, List, [], ◌∷◌, Option, None, Some, is_some}
 use Rattle.object.specs.Lists.{In}
 use Rattle.object.specs.declared.command.Key.{Key}
 use Rattle.job_store.specs.declared.job.Job.{Job}
 use Rattle.job_store.specs.Entries.{value_at}
-use Rattle.job_store.specs.Least.{least}
-use Rattle.job_store.specs.LookUps.{is_among, first_ready, pri_of_job}
+use Rattle.job_store.specs.LookUps.{is_among}
 use Rattle.job_store.specs.States.{is_ready}
 use Rattle.session_store.specs.declared.session.SessionState.{SessionState}
 use Rattle.session_store.specs.Sessions.{first_waiting}
@@ -21,15 +20,6 @@ Covers tubes s = (j : ℕ × Job) → IsWanted s j → In j.1.tube tubes
 abbrev pub has_taker : List (List ℕ) → List (ℕ × SessionState) → List ℕ → Bool
 has_taker paused sessions tube =
     not (is_among tube paused) && is_some (first_waiting (λ e. is_among tube e.1.watched) sessions)
-
--- the next ready job of a tube, if the tube is not paused and a waiting session watches it
-abbrev pub offered : List (List ℕ) → List (ℕ × Job) → List (ℕ × SessionState) → List ℕ → Option (ℕ × Job)
-offered paused jobs sessions tube =
-    if has_taker paused sessions tube then first_ready tube jobs else None
-
--- of the jobs that are offered in these tubes, that of the least (priority, id)
-abbrev pub best_offer : List (List ℕ) → List (ℕ × Job) → List (ℕ × SessionState) → List (List ℕ) → Option (ℕ × Job)
-best_offer paused jobs sessions tubes = least (λ e. true) pri_of_job (filter_map (offered paused jobs sessions) tubes)
 
 -- each job that is ready after, and was not so before, is in one of these tubes
 abbrev pub AreWoken : List (List ℕ) → List (ℕ × Job) → List (ℕ × Job) → Type 0

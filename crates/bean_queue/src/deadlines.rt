@@ -1,6 +1,5 @@
-ghost use Rattle.std.specs.Prelude.{◌≡◌, ◌++◌, ◌&&◌, ℕ, IfOk, OnOk, OnErr};
+ghost use Rattle.std.specs.Prelude.{◌≡◌, ◌++◌, ℕ, IfOk, OnOk, OnErr};
 ghost use Rattle.object.specs.Lists.{In};
-ghost use Rattle.session_store.specs.Sessions.{is_waiting};
 ghost use Rattle.bean_queue.specs.Queue.{holds_by};
 ghost use Rattle.bean_queue.specs.Holders.{waits_at, waiting_holder, AreHolders, IsSomeHolder, StandAsOften};
 
@@ -17,13 +16,6 @@ pub fn holds_by<M: JobMap>(jobs: &M, session: u32, second: u64) -> bool
         Some((_, job)) => job.state.due() <= second,
         None => false,
     }
-}
-
-/// Whether the session of this number waits and has a job that is due by this second.
-pub fn is_holder<M: JobMap>(jobs: &M, number: u32, session: &SessionState, second: u64) -> bool
-    ensures { result ≡ (is_waiting session.now && holds_by number second (M.entries jobs.now)) }
-{
-    session.wait.is_some() && holds_by(jobs, number, second)
 }
 
 /// Whether the session of this number waits.

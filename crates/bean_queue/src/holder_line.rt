@@ -1,10 +1,11 @@
-ghost use Rattle.std.specs.Prelude.{◌≡◌, ◌^◌, ℕ, true, IfOk, OnOk, IfSome, option_map};
+ghost use Rattle.std.specs.Prelude.{◌≡◌, ◌^◌, ℕ, true, IfOk, OnOk, OnErr, IfSome, option_map};
 ghost use Rattle.job_store.specs.Entries.{Rising, value_at};
 ghost use Rattle.session_store.specs.Sessions.{first_waiting, is_waiting, wait_rank, with_wait_ended};
 ghost use Rattle.bean_queue.specs.Queue.{holds_by};
-ghost use Rattle.bean_queue.specs.HolderLines.{holder_at, HasAllHolders, HaveJoined, IsInLine};
+ghost use Rattle.bean_queue.specs.Holders.{waits_at};
+ghost use Rattle.bean_queue.specs.HolderLines.{holder_at, HasAllHolders, HaveJoined, IsInLine, IsSomeWaiter};
 
-use crate::deadlines::is_holder;
+use crate::deadlines::holds_by;
 use job_store::JobMap;
 use session_store::SessionState;
 use std::alloc::{AllocError, Global};
@@ -15,16 +16,6 @@ use std::collections::{BTreeMap, BTreeSet};
 #[derive(Drop)]
 pub struct HolderLine {
     places: BTreeSet<(u64, u32)>,
-}
-
-/// The rank of a session that waits, and 0 of others.
-fn wait_rank(session: &SessionState) -> u64
-    ensures { result ≡ wait_rank session.now }
-{
-    match session.wait {
-        Some(wait) => wait.rank,
-        None => 0,
-    }
 }
 
 /// The session at a place, if it waits there and has a job that is due by this second.
@@ -38,7 +29,8 @@ fn holder_at<'a, M: JobMap>(
         ≡ holder_at second (M.entries jobs.now) sessions.now.entries place }
 {
     let session = sessions.get(&place.1)?;
-    if is_holder(jobs, place.1, session, second) && wait_rank(session) == place.0 {
+    let wait = session.wait?;
+    if wait.rank == place.0 && holds_by(jobs, place.1, second) {
         Some((place.1, session))
     } else {
         None
@@ -62,6 +54,8 @@ impl HolderLine {
         ensures grown { (p : ℕ × ℕ) → IsInLine self.old p → IsInLine self.new p }
         ensures stands { OnOk result (IfSome (value_at number sessions.now.entries)
             (λ c. is_waiting c ≡ true → IsInLine self.new (wait_rank c, number))) }
+        ensures same { OnErr result ((p : ℕ × ℕ) → IsInLine self.new p → IsInLine self.old p) }
+        ensures err { OnErr result (waits_at sessions.now.entries number ≡ true) }
     {
         let Some(session) = sessions.get(&number) else {
             return Ok(());
@@ -80,7 +74,8 @@ impl HolderLine {
         numbers: &[u32],
     ) -> Result<HolderLine, AllocError>
         requires { Rising 0 (2 ^ 32) sessions.now.entries }
-        ensures { IfOk result (λ line. HaveJoined line numbers.now sessions.now.entries) }
+        ensures joined { IfOk result (λ line. HaveJoined line numbers.now sessions.now.entries) }
+        ensures err { OnErr result (IsSomeWaiter numbers.now sessions.now.entries) }
     {
         let mut line = HolderLine::new(alloc);
         for number in numbers {

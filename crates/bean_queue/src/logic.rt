@@ -16,6 +16,7 @@ mod reserve;
 mod serve;
 mod settle;
 mod stats;
+pub mod staying;
 mod time;
 mod tubes;
 mod woken;

@@ -1,10 +1,12 @@
-ghost use Rattle.std.specs.Prelude.{◌≡◌, ◌≤◌, ◌^◌, true, false, IfOk};
+ghost use Rattle.std.specs.Prelude.{◌≡◌, ◌≤◌, ◌^◌, true, false, None, IfOk, IfSome, if◌then◌else◌};
 ghost use Rattle.bean_queue.specs.Effects.{do_effect, close_effect, tick_effect, is_quiet, lists_tubes};
 ghost use Rattle.bean_queue.specs.Tubes.{all_tubes};
+ghost use Rattle.bean_queue.specs.Staying.{IsListedBefore};
 ghost use Rattle.bean_queue.specs.Calls.{HasObeyed};
 
 use crate::laws::one_holder;
 use crate::logic::Logic;
+use crate::logic::staying::Listed;
 use crate::quiet::{is_quiet, lists_tubes};
 use crate::scan_jobs::ScanJobs;
 use bean_words::{Names, Op, Reply};
@@ -20,7 +22,7 @@ pub struct QueueOver<M: JobMap> {
     logic: Logic<M>,
     /// The answers of the command that is obeyed, until they are handed out. The list is kept for its room.
     answers: Vec<Answer<Reply>>,
-    /// The names of all tubes, where they were listed and only listed again since.
+    /// The names of all tubes, where they were listed and no tube has come or gone since.
     listed: Option<Names>,
 }
 
@@ -31,21 +33,28 @@ pub type PlainQueue = QueueOver<ScanJobs>;
 pub type Queue = QueueOver<Jobs>;
 
 impl<M: JobMap> Model for QueueOver<M> {
-    ghost use Rattle.std.specs.Prelude.{◌≡◌, None, IfSome};
+    ghost use Rattle.std.specs.Prelude.{◌≡◌, IfSome};
     ghost use Rattle.bean_queue.specs.Queue.{QueueState};
+    ghost use Rattle.bean_queue.specs.Sound.{IsSoundQueue};
     ghost use Rattle.bean_queue.specs.Tubes.{all_tubes};
-    ghost use Rattle.bean_queue.specs.Turns.{serve_turn};
 
     ghost Value = { QueueState };
 
     ghost view = { λ q. q.logic.now };
 
-    ghost invariant = { λ q. (q.logic.before ≡ q.logic.now) × (serve_turn q.logic.now ≡ None)
+    ghost invariant = { λ q. (q.logic.before ≡ q.logic.now) × IsSoundQueue q.logic.now
         × IfSome q.listed (λ names. names ≡ all_tubes q.logic.now) };
 }
 
+/// The names that are listed, where they stay.
+fn listed_if(names: Option<Names>, stay: bool) -> Option<Names>
+    ensures { result ≡ (if stay then names else None) }
+{
+    if stay { names } else { None }
+}
+
 impl<M: JobMap> QueueOver<M> {
-    /// The names of all tubes. They are made anew, unless they were listed and only listed again since.
+    /// The names of all tubes. They are made anew, unless they were listed and no tube has come or gone since.
     fn take_names(&mut self) -> Result<Names, AllocError>
         ensures names { IfOk result (λ names. names ≡ all_tubes self.old) }
         ensures same { self.new ≡ self.old }
@@ -83,6 +92,17 @@ impl<M: JobMap> QueueOver<M> {
         }
     }
 
+    /// Takes the names of all tubes, where they are listed and an operation brings no tube.
+    fn take_listed(&mut self, key: Key, op: &Op) -> Result<Option<Listed>, AllocError>
+        ensures before { IfOk result (λ listed. IfSome listed (IsListedBefore op.now key self.old)) }
+        ensures same { self.new ≡ self.old }
+    {
+        match self.listed.take() {
+            Some(names) => self.logic.listed_before(names, key, op),
+            None => Ok(None),
+        }
+    }
+
     /// Obeys a quiet operation that lists no tubes.
     fn obey_quiet(
         &mut self,
@@ -95,11 +115,12 @@ impl<M: JobMap> QueueOver<M> {
         ensures { HasObeyed self.old self.new out.old.items out.new.items
             (do_effect op.now key self.old) result }
     {
-        self.listed = None;
         out.reserve(1)?;
+        let before = self.take_listed(key, op)?;
         match self.logic.obey_quiet(self.alloc, key, op) {
             Ok(reply) => {
                 self.logic.keep();
+                self.listed = self.logic.still_listed(before);
                 out.push(Answer { to: key, reply })?;
                 Ok(())
             }
@@ -121,7 +142,6 @@ impl<M: JobMap> QueueOver<M> {
         ensures { HasObeyed self.old self.new out.old.items out.new.items
             (do_effect op.now key self.old) result }
     {
-        self.listed = None;
         self.answers.clear();
         if let Err(e) = self.logic.obey_loud(key, op, &mut self.answers) {
             self.logic.take_back();
@@ -141,7 +161,6 @@ impl<M: JobMap> QueueOver<M> {
         ensures { HasObeyed self.old self.new out.old.items out.new.items
             (close_effect session self.old) result }
     {
-        self.listed = None;
         self.answers.clear();
         let alloc = self.alloc;
         if let Err(e) = self.logic.release_all(alloc, session, &mut self.answers) {
@@ -152,8 +171,9 @@ impl<M: JobMap> QueueOver<M> {
             self.logic.take_back();
             return Err(e);
         }
-        self.logic.forget(session);
+        let stay = self.logic.forget(session);
         self.logic.keep();
+        self.listed = listed_if(self.listed.take(), stay);
         Ok(())
     }
 
@@ -167,7 +187,6 @@ impl<M: JobMap> QueueOver<M> {
         if self.logic.has_come(second) {
             return Ok(());
         }
-        self.listed = None;
         self.answers.clear();
         let over = match self.logic.pass(self.alloc, second, &mut self.answers) {
             Ok(over) => over,

@@ -1,9 +1,6 @@
 -- A host takes over a snapshot, in place of the decisions before its slot.
-use Rattle.std.specs.Prelude.{◌≡◌, ◌≢◌, ℕ, ◌+◌, ◌*◌, ◌<◌, Some, List, slice_get, ◌-◌, ◌++◌, flat_map, true}
+use Rattle.std.specs.Prelude.{◌≡◌, ◌≢◌, ℕ, ◌+◌, ◌*◌, ◌<◌, Some, List, slice_get, true}
 use Rattle.std.specs.FinMap.{get}
-use Rattle.std.specs.List.{range_with_len}
-use Rattle.std.specs.Option.{option_to_list}
-use Rattle.ballot.specs.Rests.{kept_from}
 use Rattle.object.specs.ListLaws.{Each}
 use Rattle.object.specs.Lists.{In, IsBeginning}
 use Rattle.object.specs.Objects.{Rules}
@@ -13,8 +10,7 @@ use Rattle.object.specs.declared.command.Command.{Command}
 use Rattle.ballot.specs.declared.letter.Letter.{Letter}
 use Rattle.ballot.specs.declared.letter.LetterBody.TheVariants.{Decision}
 use Rattle.slot_log.specs.Books.{SlotBook}
-use Rattle.slot_log.specs.Rests.{rest_of_book}
-use Rattle.node.specs.Rests.{rest_of_node}
+use Rattle.node.specs.ComingBack.{node_from}
 use Rattle.agreement.specs.Chosen.{IsOrder}
 use Rattle.agreement.specs.Nodes.{Cluster, node}
 use Rattle.agreement.specs.Runs.{Leads, IsWorld}
@@ -36,27 +32,11 @@ IsCatchingUp n k (Propose m) = ⊥
 IsCatchingUp n k (Perform m) = m ≡ n
 IsCatchingUp n k (Restart m) = ⊥
 
--- what was proposed for the slots from slot_out up to this one, in rising slot
-abbrev pub proposed_upto : {C : Type 0} → ℕ → SlotBook C → List C
-proposed_upto slot book =
-    flat_map (λ s. option_to_list (get book.proposals s)) (range_with_len book.slot_out (slot - book.slot_out))
-
--- the replica's book, from a higher slot on: what it has proposed for the slots before, it goes on being asked for
-abbrev pub book_from : {C : Type 0} → ℕ → SlotBook C → SlotBook C
-book_from slot book = record (rest_of_book slot book) {
-  slot_out = slot;
-  requests = book.requests ++ proposed_upto slot book;
-  proposals = kept_from slot book.proposals;
-}
-
 -- the host with this object, which goes on at this slot, and keeps the slots from there on
 abbrev pub caught_up : {Op O : Type 0} → ℕ → Filtered O → HostState Op O → HostState Op O
 caught_up slot object s = record {
   base = slot;
-  holding = record {
-    state = record (rest_of_node slot s.holding.state) { replica = book_from slot s.holding.state.replica };
-    object = object;
-  };
+  holding = node_from slot object s.holding;
 }
 
 -- the object has obeyed nothing of what the replica has proposed for slots before this one

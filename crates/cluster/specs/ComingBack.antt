@@ -1,10 +1,8 @@
 -- A host comes back with what it stored, and with a snapshot.
-use Rattle.std.specs.Prelude.{◌≡◌, ℕ, ◌+◌, max, List}
+use Rattle.std.specs.Prelude.{◌≡◌, ℕ, ◌+◌, List}
 use Rattle.object.specs.Objects.{Rules}
 use Rattle.object.specs.OnceOnly.{Filtered}
-use Rattle.acceptor.specs.Rests.{rest_of_acceptor}
-use Rattle.leader.specs.Leaders.{new_leader}
-use Rattle.slot_log.specs.Books.{new_book}
+use Rattle.node.specs.ComingBack.{node_back}
 use Rattle.agreement.specs.Steps.{Step}
 use Rattle.agreement.specs.Worlds.{World}
 use Rattle.agreement.specs.declared.event.Event.TheVariants.{Restart}
@@ -16,15 +14,7 @@ use Rattle.cluster.specs.Storing.{Stored, IsStored, booted}
 abbrev pub restarted_host : {Op O : Type 0} → List ℕ → ℕ → Stored Op → ℕ → Filtered O → HostState Op O
 restarted_host members n d slot object = record {
   base = slot;
-  holding = record {
-    state = record {
-      acceptor = rest_of_acceptor slot d.acceptor;
-      boot = d.boot + 1;
-      leader = new_leader members n (d.boot + 1);
-      replica = record new_book { slot_in = max 1 slot; slot_out = slot };
-    };
-    object = object;
-  };
+  holding = node_back members n d.acceptor (d.boot + 1) slot object;
 }
 
 -- the node restarts, its next boot is stored, and it catches up with the snapshot

@@ -1,5 +1,5 @@
 -- What may happen to hosts together: each step is at one host.
-use Rattle.std.specs.Prelude.{◌≡◌, ◌≤◌, ℕ, ◌+◌, ◌*◌, ◌-◌, true, List, [], ◌∷◌, ◌++◌}
+use Rattle.std.specs.Prelude.{◌≡◌, ◌≤◌, ℕ, ◌+◌, ◌*◌, ◌-◌, max, true, List, [], ◌∷◌, ◌++◌}
 use Rattle.object.specs.Happenings.{with_answers}
 use Rattle.object.specs.Lists.{In}
 use Rattle.object.specs.Objects.{Rules}
@@ -18,7 +18,7 @@ use Rattle.cluster.specs.Clusters.{Hosts, new_hosts, with_at, with_handed, host_
 use Rattle.cluster.specs.ComingBack.{restarted_host}
 use Rattle.cluster.specs.Envelopes.{Envelope, IsReadAs}
 use Rattle.cluster.specs.Hosts.{with_node_state, forgotten_host}
-use Rattle.cluster.specs.Storing.{stored_after, booted, compacted}
+use Rattle.cluster.specs.Storing.{Stored, IsWrittenAnew, stored_after, booted}
 
 -- the deed is one that a node does by itself: it asks for no command, and is no restart
 abbrev pub IsInternal : {Op : Type 0} → Deed Op → Type 0
@@ -71,11 +71,12 @@ pub data ClusterStep {O Op Reply : Type 0} (rules : Rules O Op Reply) (owner : �
       → base ≤ (k.host n).holding.state.replica.slot_out
       → ClusterStep rules owner k (record k { host = with_at k.host n (forgotten_host base (k.host n)) })
   compacts :
-      (n base : ℕ)
+      (n base : ℕ) (anew : Stored Op)
       → is_member k.members n ≡ true
       → (k.stored n).base ≤ base
-      → base ≤ (k.host n).base
-      → ClusterStep rules owner k (record k { stored = with_at k.stored n (compacted base (k.stored n)) })
+      → base ≤ max (k.stored n).base (k.host n).base
+      → IsWrittenAnew base (k.stored n) anew
+      → ClusterStep rules owner k (record k { stored = with_at k.stored n anew })
   hands_on :
       (n : ℕ)
       → is_member k.members n ≡ true

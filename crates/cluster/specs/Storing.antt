@@ -36,6 +36,8 @@ stored_after d (Ask s) = d
 abbrev pub booted : {Op : Type 0} → Stored Op → Stored Op
 booted d = record d { boot = d.boot + 1 }
 
--- from a higher base on
-abbrev pub compacted : {Op : Type 0} → ℕ → Stored Op → Stored Op
-compacted base d = record d { base = base; acceptor = rest_of_acceptor base d.acceptor }
+-- it is written anew from a slot on: of what was accepted from there on, e has as much as a report needs
+pub record IsWrittenAnew {Op : Type 0} (slot : ℕ) (d e : Stored Op) : Type 0 where
+  pub base : e.base ≡ slot
+  pub acceptor : Keeps (rest_of_acceptor slot d.acceptor) e.acceptor
+  pub boot : e.boot ≡ d.boot

@@ -26,7 +26,7 @@ ghost use Rattle.cluster.specs.Hosts.{HostState, ShowsHost, new_host, forgotten_
 ghost use Rattle.cluster.specs.Showing.{ShowHosts};
 ghost use Rattle.cluster.specs.Snapshots.{IsSnapshot, IsDecidedToAll};
 ghost use Rattle.cluster.specs.Steps.{AreHosts, ClusterStep};
-ghost use Rattle.cluster.specs.Storing.{Stored, IsStored, compacted};
+ghost use Rattle.cluster.specs.Storing.{Stored, IsStored, IsWrittenAnew};
 
 use agreement::every_world;
 use ballot::ballot_laws;
@@ -36,7 +36,7 @@ use object::{Object, filter_remembers};
 /// itself is the world's event, where it asks for what its filter lets through (`acts`), or for the last command of a
 /// session (`asks_last`); so is what it receives of an envelope that it may read (`receives`), which fits it (`fits`);
 /// and where it forgets more of what it performed, there is no event (`forgets`). Events at other nodes change nothing
-/// for it (`others`), nor of what it has stored (`stored`), which may be less from a higher base on (`compacts`); and
+/// for it (`others`), nor of what it has stored (`stored`), which may be written anew from a higher base on (`compacts`); and
 /// an envelope of a world is one of each later world (`envelopes`).
 pub fn hosts_alone<O: Object>()
     ensures opening { (members : List ℕ) (n : ℕ) → is_member members n ≡ true →
@@ -66,8 +66,9 @@ pub fn hosts_alone<O: Object>()
     ensures stored { (d : Stored O.Op) (m : ℕ) (w v : World O.Op O.Reply) (e : Event O.Op) →
         IsWorld O.rules w → Step O.rules w e v → IsElsewhere m w e →
         IsStored d m w.cluster → IsStored d m v.cluster }
-    ensures compacts { (d : Stored O.Op) (n base : ℕ) (w : World O.Op O.Reply) →
-        IsStored d n w.cluster → d.base ≤ base → IsStored (compacted base d) n w.cluster }
+    ensures compacts { (d anew : Stored O.Op) (n base : ℕ) (w : World O.Op O.Reply) →
+        IsStored d n w.cluster → d.base ≤ base → IsWrittenAnew base d anew →
+        IsStored anew n w.cluster }
     ensures forgets { (s : HostState O.Op O) (n base : ℕ) (w : World O.Op O.Reply) →
         ShowsHost O.rules s n w.cluster → s.base ≤ base →
         base ≤ s.holding.state.replica.slot_out →

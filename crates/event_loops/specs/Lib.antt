@@ -1,3 +1,4 @@
 pub mod LoopCounts
 pub mod Courses
 pub mod Seats
+pub mod Sessions

@@ -1,9 +1,10 @@
-ghost use Rattle.std.specs.Prelude.{◌≡◌, ◌+◌, ◌≤◌, ℕ, List, [], Result, Ok, true, length, max, IfOk, OnOk, OnErr};
+ghost use Rattle.std.specs.Prelude.{◌≡◌, ◌+◌, ◌≤◌, ℕ, List, [], Option, Result, Ok, true, length, max, IfOk, OnOk, OnErr};
 ghost use Rattle.object.specs.declared.command.Act.{Act};
 ghost use Rattle.object.specs.declared.command.Command.{Command};
 ghost use Rattle.bean_words.specs.declared.op.Op.{Op};
 ghost use Rattle.hall.specs.declared.error.HallError.{HallError};
 ghost use Rattle.event_loops.specs.Courses.{AllLead, Sight};
+ghost use Rattle.event_loops.specs.Sessions.{next_session, opened_then};
 
 use bean_words::Op;
 use conversation::Desk;
@@ -23,6 +24,9 @@ pub trait LoopDesk: Desk {
     // How many sessions were opened.
     ghost opened: { Self → ℕ };
 
+    // The session that the next client gets, where one is free that was opened before.
+    ghost free: { Self → Option ℕ };
+
     // The last second of the clock.
     ghost clock: { Self → ℕ };
 
@@ -40,16 +44,18 @@ pub trait LoopDesk: Desk {
     // That what was seen leads to what is seen later.
     ghost leads: { Sight → Sight → Type 0 };
 
-    /// Opens a session: the next one.
+    /// Gives a client a session: one that is free, or else the next one, which is opened. A refusal changes neither.
     fn open_session(&mut self) -> Result<Self::Ticket, HallError>
         ensures new { IfOk result (λ t. Self.Ticket.keeping.IsOf t []) }
-        ensures session { IfOk result (λ t. Self.Ticket.keeping.session t ≡ opened self.old + 1) }
-        ensures opened { OnOk result (opened self.new ≡ opened self.old + 1) }
+        ensures session { IfOk result (λ t. Self.Ticket.keeping.session t
+            ≡ next_session (free self.old) (opened self.old)) }
+        ensures opened { OnOk result (opened self.new ≡ opened_then (free self.old) (opened self.old)) }
         ensures err { OnErr result (opened self.new ≡ opened self.old) }
+        ensures none_taken { OnErr result (free self.new ≡ free self.old) }
         ensures kept { OnErr result (handed_in self.new ≡ handed_in self.old) }
         ensures goes_on { AllLead leads (shows self.old) (shows self.new) };
 
-    /// A session hands in nothing more.
+    /// A ticket's session hands in nothing more under it. Another client may have the session later.
     fn see_off(&mut self, ticket: &Self::Ticket)
         ensures kept { handed_in self.new ≡ handed_in self.old }
         ensures goes_on { AllLead leads (shows self.old) (shows self.new) };

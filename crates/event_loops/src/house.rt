@@ -3,6 +3,7 @@ ghost use Rattle.hall.specs.declared.error.HallError.{HallError};
 ghost use Rattle.conversation.specs.Desks.{HandsIn};
 ghost use Rattle.event_loops.specs.Courses.{AllLead};
 ghost use Rattle.event_loops.specs.Seats.{gives_up_at, has_ended};
+ghost use Rattle.event_loops.specs.Sessions.{next_session, opened_then};
 
 use crate::beginning::Beginning;
 use crate::desk::LoopDesk;
@@ -82,12 +83,15 @@ impl<D: LoopDesk, B: Beginning> House<D, B> {
         let _ = self.settle(1);
     }
 
-    /// Opens a session for a loop.
+    /// A client of a loop gets a session: one that is free, or else the next one.
     pub(crate) fn open_session(&mut self, owner: usize) -> Result<D::Ticket, HallError>
         ensures new { IfOk result (λ t. D.Ticket.keeping.IsOf t []) }
-        ensures session { IfOk result (λ t. D.Ticket.keeping.session t ≡ D.opened self.old + 1) }
-        ensures opened { OnOk result (D.opened self.new ≡ D.opened self.old + 1) }
+        ensures session { IfOk result (λ t. D.Ticket.keeping.session t
+            ≡ next_session (D.free self.old) (D.opened self.old)) }
+        ensures opened { OnOk result (D.opened self.new
+            ≡ opened_then (D.free self.old) (D.opened self.old)) }
         ensures err { OnErr result (D.opened self.new ≡ D.opened self.old) }
+        ensures none_taken { OnErr result (D.free self.new ≡ D.free self.old) }
         ensures kept { OnErr result (D.handed_in self.new ≡ D.handed_in self.old) }
     {
         self.owners.reserve(1)?;
@@ -96,12 +100,18 @@ impl<D: LoopDesk, B: Beginning> House<D, B> {
         Ok(ticket)
     }
 
-    /// A client's session is seen off where it hands in nothing more, and else nothing is done.
-    pub(crate) fn see_off<S: Stream>(&mut self, seat: &Seat<S, D::Ticket>)
-        ensures { (seat.now.is_abandoned || has_ended seat.now.client.stage) ≡ false →
+    /// A client's session is seen off once, when it hands in nothing more, and else nothing is done: afterwards another client
+    /// may have it.
+    pub(crate) fn see_off<S: Stream>(&mut self, seat: &mut Seat<S, D::Ticket>)
+        ensures stays { (seat.old.is_abandoned || has_ended seat.old.client.stage) ≡ false →
             self.new ≡ self.old }
+        ensures once { seat.old.is_seen_off ≡ true → self.new ≡ self.old }
+        ensures seat { seat.new ≡ record seat.old {
+          is_seen_off = seat.old.is_seen_off
+              || (seat.old.is_abandoned || has_ended seat.old.client.stage);
+        } }
     {
-        if seat.has_left() {
+        if seat.take_leave() {
             let ticket = seat.ticket();
             let _ = self.owners.swap_remove(&ticket.session());
             self.desk.see_off(ticket);

@@ -1,4 +1,4 @@
-ghost use Rattle.std.specs.Prelude.{◌≡◌, ◌+◌, ◌<◌, ◌≤◌, ◌||◌, Result, [], true, false, length, IfOk};
+ghost use Rattle.std.specs.Prelude.{◌≡◌, ◌+◌, ◌<◌, ◌≤◌, ◌||◌, ◌&&◌, not, Result, [], true, false, length, IfOk};
 ghost use Rattle.session.specs.Serving.{longest_piece};
 ghost use Rattle.hall.specs.declared.error.HallError.{HallError};
 ghost use Rattle.conversation.specs.Desks.{HandsIn, Notes};
@@ -30,6 +30,8 @@ pub(crate) struct Seat<S: Stream, T: SessionTicket> {
     has_gone: bool,
     /// The hall takes nothing more of its session.
     is_abandoned: bool,
+    /// Its session was seen off, and may be another client's.
+    is_seen_off: bool,
     /// Something was refused for want of memory: it waits until the loop tries again.
     pub(crate) is_refused: bool,
     /// The loop has it on its list of those that it goes on with.
@@ -54,6 +56,7 @@ impl<S: Stream, T: SessionTicket> Seat<S, T> {
     pub(crate) fn new(client: Client<Wire<S>, T>) -> Seat<S, T>
         ensures client { result.client ≡ client }
         ensures owed { result.owed ≡ 0 }
+        ensures here { result.is_seen_off ≡ false }
     {
         Seat {
             client,
@@ -62,6 +65,7 @@ impl<S: Stream, T: SessionTicket> Seat<S, T> {
             is_half_closed: false,
             has_gone: false,
             is_abandoned: false,
+            is_seen_off: false,
             is_refused: false,
             is_listed: false,
         }
@@ -156,6 +160,20 @@ impl<S: Stream, T: SessionTicket> Seat<S, T> {
         ensures { result ≡ (self.now.is_abandoned || has_ended self.now.client.stage) }
     {
         self.is_abandoned || matches!(self.client.conversation().stage(), Stage::Left(_))
+    }
+
+    /// Whether it is to be seen off now: its session hands in nothing more, and that wasn't asked before when it was so.
+    pub(crate) fn take_leave(&mut self) -> bool
+        ensures leaves { result ≡ (not self.old.is_seen_off
+            && (self.old.is_abandoned || has_ended self.old.client.stage)) }
+        ensures seat { self.new ≡ record self.old {
+          is_seen_off = self.old.is_seen_off
+              || (self.old.is_abandoned || has_ended self.old.client.stage);
+        } }
+    {
+        let leaves = !self.is_seen_off && self.has_left();
+        self.is_seen_off = self.is_seen_off || leaves;
+        leaves
     }
 
     /// Where its client sends nothing more, a wait for an answer ends, as if it had gone: no node has anything left to do.

@@ -1,4 +1,4 @@
-ghost use Rattle.std.specs.Prelude.{◌≡◌, ◌==◌, ◌≤◌, [], None, Some, length, nat_eq, IfOk, OnOk};
+ghost use Rattle.std.specs.Prelude.{◌≡◌, ◌≢◌, ◌==◌, ◌≤◌, ℕ, [], None, Some, length, nat_eq, IfOk, OnOk};
 ghost use Rattle.std.specs.Option.{option_copied_mut};
 ghost use Rattle.indexmap.specs.IndexMap.{get as key_under};
 ghost use Rattle.slab.specs.Slab.{HasRoomFor, Updates, get, slab_len};
@@ -71,12 +71,17 @@ impl<S: Stream, T: SessionTicket> Seats<S, T> {
         self.keys.get(&session).copied()
     }
 
-    /// Lets a client go: its connection is closed.
+    /// Lets a client go: its connection is closed. Who else has its session by now is still found by it.
     pub(crate) fn let_go(&mut self, key: usize)
         ensures gone { Updates self.old.seats self.new.seats key None }
+        ensures others { (session other : ℕ) → key_under nat_eq self.old.keys session ≡ Some other
+            → other ≢ key → key_under nat_eq self.new.keys session ≡ Some other }
     {
         if let Some(seat) = self.seats.try_remove(key) {
-            let _ = self.keys.swap_remove(&seat.ticket().session());
+            let session = seat.ticket().session();
+            if self.key_of(session) == Some(key) {
+                let _ = self.keys.swap_remove(&session);
+            }
         }
     }
 

@@ -1,4 +1,9 @@
-pub mod Reports
+pub mod Storing
+pub mod Rewriting
 pub mod Received
+pub mod Acting
+pub mod Forgetting
 pub mod Steps
+pub mod Reading
+pub mod Returning
 pub mod Counting

@@ -1,4 +1,5 @@
--- How many events there are at a host: each of its calls that is a step is one, but that forgetting is none.
+-- How many events there are at a host: each of its calls that is a step is one, but that forgetting is none, and that a
+-- snapshot stands for two for each slot.
 use Rattle.std.specs.Prelude.{ℕ, ◌^◌, if◌then◌else◌}
 use Rattle.object.specs.OnceOnly.{Filtered}
 use Rattle.node.specs.declared.deed.Deed.{Deed}
@@ -16,6 +17,7 @@ deed_events f d = if is_let_through f d then 1 else 0
 
 -- an envelope that came is one where what was left of it was received
 abbrev pub receipt_events : Receipt → ℕ
+receipt_events receipts.Astray = 0
 receipt_events receipts.Illegible = 0
 receipt_events receipts.Forgotten = 0
 receipt_events receipts.Unfit = 0

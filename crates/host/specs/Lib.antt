@@ -1,8 +1,12 @@
-pub mod Left
 pub mod Deeds
 pub mod Counting
 pub mod Outboxes
 pub mod Views
+pub mod Forgetting
 pub mod Receiving
 pub mod Hearing
+pub mod CatchingUp
+pub mod Storing
+pub mod Keeping
+pub mod Leading
 pub mod Steps

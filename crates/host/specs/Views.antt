@@ -8,9 +8,10 @@ use Rattle.cluster.specs.Envelopes.{Envelope}
 use Rattle.cluster.specs.Hosts.{HostState, new_host, host_turn, with_holding, forgotten_host}
 use Rattle.host.specs.Counting.{deed_events}
 
--- What was put aside waits in the order in which it came; so many more were there before, and are received. So many
--- events there were here.
+-- The number of its node. What was put aside waits in the order in which it came; so many more were there before, and
+-- are received. So many events there were here, at most.
 pub record HostView (Op O : Type 0) : Type 0 where
+  pub number : ℕ
   pub shown : HostState Op O
   pub aside : List (Envelope (Command Op))
   pub voted : ℕ
@@ -18,7 +19,8 @@ pub record HostView (Op O : Type 0) : Type 0 where
 
 -- node n of these members, before anything happened
 abbrev pub new_view : {O Op Reply : Type 0} → Rules O Op Reply → List ℕ → ℕ → HostView Op O
-new_view rules members n = record { shown = new_host rules members n; aside = []; voted = 0; taken = 0 }
+new_view rules members n =
+    record { number = n; shown = new_host rules members n; aside = []; voted = 0; taken = 0 }
 
 -- it does this by itself
 abbrev pub acted_view : {O Op Reply : Type 0} → Rules O Op Reply → HostView Op O → Deed Op → HostView Op O

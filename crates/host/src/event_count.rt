@@ -1,4 +1,4 @@
-ghost use Rattle.std.specs.Prelude.{◌≡◌, ◌≤◌, ◌+◌, IfOk, IfErr};
+ghost use Rattle.std.specs.Prelude.{◌≡◌, ◌≤◌, ◌<◌, ◌+◌, IfOk, IfErr};
 ghost use Rattle.host.specs.Counting.{most_host_events};
 ghost use Rattle.host.specs.declared.host_fault.HostFault.TheVariants.{EventsExhausted};
 
@@ -43,17 +43,19 @@ impl EventCount {
         self.count
     }
 
-    /// With one more, where that isn't too many.
-    pub(crate) fn next(self) -> Result<EventCount, HostFault>
-        ensures ok { IfOk result (λ next. next ≡ self + 1) }
+    /// With so many more, where these aren't too many.
+    pub(crate) fn plus(self, more: u64) -> Result<EventCount, HostFault>
+        ensures ok { IfOk result (λ sum. sum ≡ self + more) }
         ensures err { IfErr result (λ fault.
-            (fault ≡ EventsExhausted) × (self ≡ most_host_events)) }
+            (fault ≡ EventsExhausted) × (most_host_events < self + more)) }
+        ensures within { self ≤ most_host_events }
+        ensures one { IfErr result (λ fault. more ≡ 1 → self ≡ most_host_events) }
     {
-        if self.count >= MOST {
+        if MOST - self.count < more {
             return Err(HostFault::EventsExhausted);
         }
         Ok(EventCount {
-            count: self.count + 1,
+            count: self.count + more,
         })
     }
 }

@@ -6,9 +6,15 @@ use thiserror::Error;
 pub enum HostFault {
     #[error("out of memory")]
     OutOfMemory,
-    /// It has had 2^45 events.
+    /// It has had 2^45 events, or would have more.
     #[error("events exhausted")]
     EventsExhausted,
+    /// It has begun anew 2^62 times.
+    #[error("boots exhausted")]
+    BootsExhausted,
+    /// What its acceptor accepted in the snapshot's slot and later ones isn't all there.
+    #[error("the snapshot is older than what is stored")]
+    SnapshotTooOld,
 }
 
 impl From<AllocError> for HostFault {

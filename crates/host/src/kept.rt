@@ -1,49 +1,43 @@
-ghost use Rattle.std.specs.Prelude.{◌≡◌, ◌≤◌, ◌<◌, ◌+◌, ◌^◌};
+ghost use Rattle.std.specs.Prelude.{◌≡◌, ◌<◌, ◌≤◌, ◌+◌, ◌-◌, ◌^◌, ◌⊎◌, IfSome, IfNone};
+ghost use Rattle.host.specs.Keeping.{kept_upto};
 
-use std::marker::Model;
-
-/// That the records of so many letters that asked for a vote are kept, of all that were put aside. Only an account
-/// makes one.
+/// That the records of so many letters that asked for a vote are kept, of all that were put aside since a host's last
+/// boot. Only the account of that boot makes one.
 #[derive(Clone, Copy, Debug)]
 pub struct Kept {
+    boot: u64,
     upto: u64,
 }
 
-impl Model for Kept {
-    ghost use Rattle.std.specs.Prelude.{ℕ};
-
-    ghost Value = { ℕ };
-
-    ghost view = { λ k. k.upto };
-
-    ghost inverse = { λ n. record { upto = n } };
-}
-
 impl Kept {
-    /// How many.
-    pub fn upto(&self) -> u64
-        ensures { result ≡ self.now }
+    /// How many records are kept of the host of this boot: none of another's.
+    pub(crate) fn upto(self, boot: u64) -> u64
+        ensures { result ≡ kept_upto boot self }
     {
-        self.upto
+        if self.boot == boot { self.upto } else { 0 }
     }
 }
 
-/// How many records a journal was handed, and how many of these it keeps. The journal holds the only one, and tells it
-/// of a record once it is written, and that records are kept once the file is synced.
+/// How many records a journal was handed since a host's last boot, and how many of these it keeps. The host gives the
+/// only one of its boot to its journal, which tells it of a record once it is written, and that records are kept once
+/// the file is synced.
 #[derive(Drop)]
 pub struct Account {
+    boot: u64,
     written: u64,
     kept: u64,
     ghost ok: { kept ≤ written },
 }
 
 impl Account {
-    /// None is written.
-    pub fn new() -> Account
+    /// None is written since this boot.
+    pub(crate) fn new(boot: u64) -> Account
+        ensures boot { result.boot ≡ boot }
         ensures written { result.written ≡ 0 }
         ensures kept { result.kept ≡ 0 }
     {
         Account {
+            boot,
             written: 0,
             kept: 0,
         }
@@ -56,24 +50,42 @@ impl Account {
         self.written
     }
 
-    /// The next one is written.
-    pub fn write(&mut self)
-        requires { self.old.written < 2 ^ 63 }
-        ensures written { self.new.written ≡ self.old.written + 1 }
-        ensures kept { self.new.kept ≡ self.old.kept }
+    /// How many are kept.
+    pub fn kept(&self) -> u64
+        ensures { result ≡ self.now.kept }
     {
-        self.written += 1;
+        self.kept
     }
 
-    /// So many of what was written are kept now.
-    pub fn keep(&mut self, upto: u64) -> Kept
-        requires written { upto ≤ self.old.written }
-        requires more { self.old.kept ≤ upto }
-        ensures result { result ≡ upto }
-        ensures kept { self.new.kept ≡ upto }
-        ensures written { self.new.written ≡ self.old.written }
+    /// The next one is written. It answers how many are written then, or None where they can't be counted any more.
+    pub fn write(&mut self) -> Option<u64>
+        ensures written { IfSome result (λ written. (written ≡ self.old.written + 1)
+            × (self.new.written ≡ self.old.written + 1)
+            × (self.new.boot ≡ self.old.boot) × (self.new.kept ≡ self.old.kept)) }
+        ensures uncounted { IfNone result ((self.new ≡ self.old)
+            × (self.old.written ≡ 2 ^ 64 - 1)) }
     {
+        self.written = self.written.checked_add(1)?;
+        Some(self.written)
+    }
+
+    /// So many of what was written are kept now. It answers None where so many were not written, or fewer than were
+    /// kept before.
+    pub fn keep(&mut self, upto: u64) -> Option<Kept>
+        ensures kept { IfSome result (λ kept. (kept ≡ record { boot = self.old.boot; upto = upto })
+            × (upto ≤ self.old.written) × (self.old.kept ≤ upto)
+            × (self.new.kept ≡ upto)
+            × (self.new.boot ≡ self.old.boot) × (self.new.written ≡ self.old.written)) }
+        ensures refused { IfNone result ((self.new ≡ self.old)
+            × ((self.old.written < upto) ⊎ (upto < self.old.kept))) }
+    {
+        if upto < self.kept || self.written < upto {
+            return None;
+        }
         self.kept = upto;
-        Kept { upto }
+        Some(Kept {
+            boot: self.boot,
+            upto,
+        })
     }
 }

@@ -33,6 +33,13 @@ impl<C> Outbox<C> {
         }
     }
 
+    /// The base under which its letters leave.
+    pub fn base(&self) -> u64
+        ensures { result ≡ self.now.base }
+    {
+        self.base
+    }
+
     /// The letters in their envelopes. Where memory is refused, they are lost.
     pub fn into_envelopes(self) -> Result<Vec<Envelope<C>>, AllocError>
     where

@@ -1,17 +1,17 @@
-ghost use Rattle.std.specs.Prelude.{◌≡◌, ◌<◌, ◌+◌, ◌^◌, true, false, is_none, [], IsErrOf, IfOk, OnErr};
+ghost use Rattle.std.specs.Prelude.{◌≡◌, ◌<◌, ◌+◌, ◌^◌, ◌⊎◌, ℕ, List, true, false, is_none, Some, [], IsErrOf, IsOk, IfOk, IfErr, IfSome, IfNone, OnOk, OnErr};
 ghost use Rattle.object.specs.declared.command.Command.{Command};
 ghost use Rattle.ballot.specs.Rests.{rest_of_body};
-ghost use Rattle.node.specs.Receiving.{IsFit};
+ghost use Rattle.ballot.specs.declared.letter.Letter.{Letter};
+ghost use Rattle.node.specs.Receiving.{IsFit, SaysNothingNew};
 ghost use Rattle.cluster.specs.Envelopes.{IsLegible};
 ghost use Rattle.host.specs.Counting.{most_host_events, receipt_events};
-ghost use Rattle.host.specs.Receiving.{AsksForVote, Comes, ComesOf, put_aside};
+ghost use Rattle.host.specs.Receiving.{AsksForVote, Comes, Takes, TakesBody, IsLeftOut, MayReceive, put_aside};
 
 use crate::envelope::Envelope;
 use crate::event_count::EventCount;
 use crate::host_fault::HostFault;
-use crate::left::{Left, left_of};
 use crate::receipt::Receipt;
-use ballot::{Ballot, Letter, LetterBody};
+use ballot::{Ballot, Left, Letter, LetterBody, left_of};
 use node::LeanNode;
 use object::{Command, Object};
 use std::alloc::AllocError;
@@ -75,70 +75,105 @@ fn has_next(ballot: Ballot) -> bool
     ballot.next_after(1, 0).is_some()
 }
 
-// A node reads an envelope and receives what is left of it from the base on, which is an event, or leaves it out.
+// A node reads an envelope to it and receives what is left of it from the base on, which is an event, or leaves it out.
 pub(crate) fn receive_counted<O: Object>(
     node: &mut LeanNode<O>,
+    number: u8,
     envelope: &Envelope<Command<O::Op>>,
     base: u64,
     events: &mut EventCount,
     sent: &mut Vec<Letter<Command<O::Op>>>,
 ) -> Result<Receipt, HostFault>
-    ensures ok { IfOk result (λ receipt. Comes receipt
+    requires { envelope.now.letter.to ≡ number }
+    ensures ok { IfOk result (λ receipt. Comes receipt number
         (record { base = base; holding = node.old }) envelope.now
-        (record { base = base; holding = node.new }) sent.old.items sent.new.items) }
-    ensures now { IfOk result (λ receipt. put_aside receipt envelope.now ≡ []) }
-    ensures counts { IfOk result (λ receipt.
-        events.new ≡ events.old + receipt_events receipt) }
+        (record { base = base; holding = node.new }) sent.old.items sent.new.items
+        × (put_aside receipt envelope.now ≡ [])
+        × (events.new ≡ events.old + receipt_events receipt)) }
+    ensures faults { IfErr result (λ fault.
+        (fault ≡ HostFault.OutOfMemory) ⊎ (fault ≡ HostFault.EventsExhausted)) }
     ensures exhausted { IsErrOf result HostFault.EventsExhausted → events.old ≡ most_host_events }
+    ensures idle { IsLeftOut number (record { base = base; holding = node.old }) envelope.now →
+        IsOk result }
+    ensures again { rest_of_body base envelope.now.letter.body ≡ Some envelope.now.letter.body →
+        SaysNothingNew node.old.state envelope.now.letter.body → events.old < most_host_events →
+        IsOk result }
     ensures err { OnErr result ((node.new ≡ node.old) × (sent.new.items ≡ sent.old.items)
         × (events.new ≡ events.old)) }
 {
-    let next = events.next()?;
-    let receipt = receive_left(node, envelope, base, sent)?;
-    if receipt == Receipt::Received {
-        *events = next;
+    if let Some(receipt) = leave_out(node, envelope, base) {
+        return Ok(receipt);
     }
-    Ok(receipt)
+    let next = events.plus(1)?;
+    receive_left(node, number, envelope, base, sent)?;
+    *events = next;
+    Ok(Receipt::Received)
 }
 
-// A node reads an envelope and receives what is left of it from the base on, or leaves it out.
+// Why an envelope is left out, if it is.
+fn leave_out<O: Object>(
+    node: &LeanNode<O>,
+    envelope: &Envelope<Command<O::Op>>,
+    base: u64,
+) -> Option<Receipt>
+    ensures some { IfSome result (λ receipt. (n : ℕ) (now : List (Letter (Command O.Op))) →
+        envelope.now.letter.to ≡ n →
+        Comes receipt n (record { base = base; holding = node.now }) envelope.now
+        (record { base = base; holding = node.now }) now now) }
+    ensures now { IfSome result (λ receipt. (put_aside receipt envelope.now ≡ [])
+        × (receipt_events receipt ≡ 0)) }
+    ensures none { IfNone result (MayReceive (record { base = base; holding = node.now }) envelope.now) }
+{
+    let body = &envelope.letter().body;
+    if !is_legible(base, envelope.label(), body) {
+        return Some(Receipt::Illegible);
+    }
+    if is_forgotten(body, base) {
+        return Some(Receipt::Forgotten);
+    }
+    if !is_fit(node, body) {
+        return Some(Receipt::Unfit);
+    }
+    None
+}
+
+// A node receives what is left of an envelope from the base on.
 fn receive_left<O: Object>(
     node: &mut LeanNode<O>,
+    number: u8,
     envelope: &Envelope<Command<O::Op>>,
     base: u64,
     sent: &mut Vec<Letter<Command<O::Op>>>,
-) -> Result<Receipt, AllocError>
-    ensures ok { IfOk result (λ receipt. Comes receipt
+) -> Result<(), AllocError>
+    requires to { envelope.now.letter.to ≡ number }
+    requires may { MayReceive (record { base = base; holding = node.old }) envelope.now }
+    ensures ok { OnOk result (Takes number
         (record { base = base; holding = node.old }) envelope.now
         (record { base = base; holding = node.new }) sent.old.items sent.new.items) }
-    ensures now { IfOk result (λ receipt. put_aside receipt envelope.now ≡ []) }
+    ensures again { rest_of_body base envelope.now.letter.body ≡ Some envelope.now.letter.body →
+        SaysNothingNew node.old.state envelope.now.letter.body → IsOk result }
     ensures err { OnErr result ((node.new ≡ node.old) × (sent.new.items ≡ sent.old.items)) }
 {
     let letter = envelope.letter();
-    if !is_legible(base, envelope.label(), &letter.body) {
-        return Ok(Receipt::Illegible);
-    }
     match left_of(*sent.allocator(), &letter.body, base)? {
-        Left::Nothing => Ok(Receipt::Forgotten),
-        Left::All => receive_fit(node, letter.from, &letter.body, sent),
-        Left::Part(part) => receive_fit(node, letter.from, &part, sent),
+        Left::Part(part) => receive_body(node, letter.from, &part, sent),
+        _ => receive_body(node, letter.from, &letter.body, sent),
     }
 }
 
-// A node receives a body, where it fits.
-fn receive_fit<O: Object>(
+// A node receives a body.
+pub(crate) fn receive_body<O: Object>(
     node: &mut LeanNode<O>,
     from: u8,
     body: &LetterBody<Command<O::Op>>,
     sent: &mut Vec<Letter<Command<O::Op>>>,
-) -> Result<Receipt, AllocError>
-    ensures ok { IfOk result (λ receipt.
-        ComesOf receipt «from» node.old body.now node.new sent.old.items sent.new.items) }
+) -> Result<(), AllocError>
+    requires { IsFit node.old.state body.now }
+    ensures ok { OnOk result
+        (TakesBody «from» node.old body.now node.new sent.old.items sent.new.items) }
+    ensures again { SaysNothingNew node.old.state body.now → IsOk result }
     ensures err { OnErr result ((node.new ≡ node.old) × (sent.new.items ≡ sent.old.items)) }
 {
-    if !is_fit(node, body) {
-        return Ok(Receipt::Unfit);
-    }
     node.receive(from, body, sent)?;
-    Ok(Receipt::Received)
+    Ok(())
 }

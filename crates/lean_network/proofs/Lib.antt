@@ -1,4 +1,3 @@
-pub mod Reports
 pub mod States
 pub mod Placed
 pub mod Begun

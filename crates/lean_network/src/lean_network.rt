@@ -13,9 +13,8 @@ ghost use Rattle.lean_network.specs.LeanNetworks.{states, new_lean, lean_node_of
 ghost use Rattle.lean_network.specs.LeanNetworks.{lean_with_last, rest_of_holding, forgotten_lean, IsLeanDelivered};
 ghost use Rattle.lean_network.specs.Receipts.{receipt_of, receipt_of_rest};
 
-use crate::left::{Left, left_of};
 use crate::receipt::Receipt;
-use ballot::{Letter, Members};
+use ballot::{Left, Letter, Members, left_of};
 use network::mail::Mail;
 use network::post;
 use network::sorting::sort;

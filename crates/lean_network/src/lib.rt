@@ -3,7 +3,6 @@
 
 mod laws;
 mod lean_network;
-mod left;
 mod receipt;
 
 pub use laws::lean_networks;

@@ -2,7 +2,8 @@
 use Rattle.std.proofs.Common.{◌≡◌, ◌≤◌, ◌+◌, ◌++◌, ℕ, Bool, true, false, if◌then◌else◌, List, [], length, refl, sym, ap, subst, ◌∙◌, length-append, arith}
 use Rattle.object.specs.Objects.{Rules}
 use Rattle.object.specs.declared.command.Command.{Command}
-use Rattle.forgetting_hall.specs.Halls.{ForgettingState, rest_of_hall}
+use Rattle.forgetting_hall.specs.Halls.{ForgettingState}
+use Rattle.forgetting_hall.specs.Leading.{TurnsOn}
 use Rattle.forgetting_hall.specs.Telling.{HasTold}
 use Rattle.loops.specs.Taking.{HasTakenCount, HasTakenFor, for_log}
 
@@ -36,6 +37,16 @@ module _ {O Op Reply : Type 0} (rules : Rules O Op Reply) (h : ForgettingState O
           sym (all ∙ ap (λ (q : ForgettingState Op O Reply). q.summary.placed) same ∙ counted h.network.members was.0 was.2),
           subst (λ (q : ForgettingState Op O Reply). HasTold rules q.network.members q told) (sym same) (takes h.network.members was.0 was.2),
         )
+
+-- what was taken still was, where nothing is told
+pub still_taken : {O Op Reply : Type 0} (rules : Rules O Op Reply) (h z : ForgettingState Op O Reply) (logs : Bool) (t : ℕ)
+    → TurnsOn rules h z → HasTakenFor rules h logs t → HasTakenFor rules z logs t
+still_taken rules h z logs t on taken is =
+    let was = taken is in (
+      was.0,
+      was.1,
+      subst (λ members. HasTold rules members z was.0) (sym on.leads.members) (on.tells h.network.members was.0 was.2),
+    )
 
 pub le_same : (a b : ℕ) → a ≡ b → b ≤ a
 le_same a b e = omega (arith, e)

@@ -1,5 +1,5 @@
 -- What the steps of a hall that forgets keep, by what its calls ensure.
-use Rattle.std.proofs.Common.{◌≡◌, ◌<◌, ◌≤◌, ◌+◌, ◌++◌, max, ℕ, List, length, Option, None, Some, Result, Ok, Err, OnOk, OnErr}
+use Rattle.std.proofs.Common.{◌≡◌, ◌<◌, ◌≤◌, ◌+◌, max, ℕ, List, length, Option, None, Some, Result, Ok, Err, OnOk}
 use Rattle.std.proofs.Common.{[], ◌∷◌, drop, refl, sym, ap, subst, ◌∙◌, length-append, arith}
 use Rattle.std.proofs.Math.Nat.{le-max_left, le-max_right}
 use Rattle.std.proofs.lemmas.List.{length-drop}

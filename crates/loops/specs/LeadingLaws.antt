@@ -10,12 +10,12 @@ use Rattle.hall.specs.declared.error.HallError.{HallError}
 use Rattle.turns.specs.Going.{HallGoesOn}
 use Rattle.bean_words.specs.declared.op.Op.{Op}
 use Rattle.bean_words.specs.declared.reply.Reply.{Reply}
-use Rattle.conversation.specs.Tickets.{LeanTicketState}
-use Rattle.event_loops.specs.Courses.{AllLead, Sight}
+use Rattle.event_loops.specs.Courses.{AllLead}
 use Rattle.forgetting_hall.specs.Halls.{ForgettingState}
 use Rattle.forgetting_hall.specs.Leading.{LeadsOn}
 use Rattle.forgetting_hall.specs.LeadingLaws.{follow_on}
 use Rattle.loops.specs.Desks.{HandsInLean, IsShownBy, LeadsBy, LeanDesk, LeanGoesOn}
+use Rattle.loops.specs.Lending.{LentState}
 
 module _ {O Op Reply : Type 0} (rules : Rules O Op Reply) where
   -- no event leads from a world to itself
@@ -54,7 +54,7 @@ module _ {O : Type 0} (rules : Rules O Op Reply) where
       (t.1.0, t.0.world, t.1.1, t.2.0, t.2.1)
 
   -- where something is handed in it goes on, too
-  pub hands_lean : (old new : LeanDesk Op O Reply) (ticket : LeanTicketState) (act : Act Op) (result : Result Unit HallError)
+  pub hands_lean : (old new : LeanDesk Op O Reply) (ticket : LentState) (act : Act Op) (result : Result Unit HallError)
       → HandsInLean rules old ticket act result new
       → AllLead (λ s t. LeadsBy rules s.world t.world) (λ s. IsShownBy rules old.hall s.world) (λ s. IsShownBy rules new.hall s.world)
   hands_lean old new ticket act result does = lean_goes old.hall new.hall does.leads

@@ -2,7 +2,6 @@
 use Rattle.std.specs.Prelude.{◌≡◌, ℕ, Bool, true, List, [], length, if◌then◌else◌}
 use Rattle.object.specs.Objects.{Rules}
 use Rattle.object.specs.declared.command.Command.{Command}
-use Rattle.recorder.specs.Records.{Record, commands_from}
 use Rattle.forgetting_hall.specs.Halls.{ForgettingState}
 use Rattle.forgetting_hall.specs.Telling.{HasTold}
 

@@ -165,7 +165,7 @@ impl<O: Object<Op = Op, Reply = Reply>> Desk for HallDesk<O> {
 }
 
 impl<O: Object<Op = Op, Reply = Reply>> LoopDesk for HallDesk<O> {
-    ghost use Rattle.std.specs.Prelude.{ℕ, ◌≡◌, ◌≤◌, ◌+◌, refl, length, if◌then◌else◌};
+    ghost use Rattle.std.specs.Prelude.{ℕ, ◌≡◌, ◌≤◌, ◌+◌, None, refl, length, if◌then◌else◌};
     ghost use Rattle.recorder.specs.Records.{commands_from};
     ghost use Rattle.turns.specs.Working.{no_work, work_of};
     ghost use Rattle.turns.specs.Going.{HallGoesOn};
@@ -177,6 +177,9 @@ impl<O: Object<Op = Op, Reply = Reply>> LoopDesk for HallDesk<O> {
     ghost handed_in = { λ desk. desk.hall.book };
 
     ghost opened = { λ desk. length desk.hall.book };
+
+    // Each client gets a new one, which keeps its ticket.
+    ghost free = { λ desk. None };
 
     ghost clock = { λ desk. desk.hall.second };
 

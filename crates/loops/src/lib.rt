@@ -3,8 +3,10 @@
 //! Either is a desk for the loops of `event_loops`, which serve its clients.
 #![tactic(auto)]
 
+mod ends;
 mod forgetting_desk;
 mod hall_desk;
+mod lent_ticket;
 mod server;
 mod steps;
 

@@ -1,12 +1,13 @@
-ghost use Rattle.std.specs.Prelude.{◌≡◌, ◌+◌, ◌≤◌, max, IfOk, OnOk, OnErr};
+ghost use Rattle.std.specs.Prelude.{◌≡◌, ◌+◌, ◌≤◌, ◌<◌, ◌^◌, max, IfOk, OnOk, OnErr};
 ghost use Rattle.forgetting_hall.specs.Handing.{next_of, second_of};
 ghost use Rattle.forgetting_hall.specs.Halls.{rest_of_hall};
 ghost use Rattle.forgetting_hall.specs.Leading.{TurnsOn};
 ghost use Rattle.forgetting_hall.specs.Rests.{handed_in};
+ghost use Rattle.loops.specs.Lending.{command_behind};
 
 use forgetting_hall::{ForgettingHall, leads_on, tells_in_order};
 use hall::HallError;
-use object::{Act, Object};
+use object::{Act, Command, Key, Object};
 
 /// So many seconds that were missed are made up under one hold of the lock.
 const MOST_SECONDS: u32 = 1024;
@@ -26,6 +27,31 @@ pub(crate) fn submit<O: Object>(
     tells_in_order::<O>();
     leads_on::<O>();
     hall.submit(session, act, node)
+}
+
+/// An act is handed in behind this key, its session's last one, at a node: also where that was the session's end.
+pub(crate) fn submit_behind<O: Object>(
+    hall: &mut ForgettingHall<O>,
+    last: Key,
+    act: Act<O::Op>,
+    node: u8,
+) -> Result<(), HallError>
+    requires { last.number < 2 ^ 62 }
+    ensures ok { OnOk result (rest_of_hall O.rules hall.new
+        ≡ handed_in O.rules (rest_of_hall O.rules hall.old) node (command_behind last act)) }
+    ensures err { OnErr result (hall.new ≡ hall.old) }
+    ensures goes_on { TurnsOn O.rules hall.old hall.new }
+{
+    tells_in_order::<O>();
+    leads_on::<O>();
+    let key = Key {
+        session: last.session,
+        number: last.number + 1,
+    };
+    match Command::new(key, act) {
+        Some(command) => hall.hand_in(command, node),
+        None => Err(HallError::BadNumber),
+    }
 }
 
 /// A session's last command is handed in again, at a node.

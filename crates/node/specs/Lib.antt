@@ -5,6 +5,7 @@ pub mod Receiving
 pub mod Kept
 pub mod Holding
 pub mod Rests
+pub mod ComingBack
 pub mod Turns
 pub mod SlotLaws
 pub mod PlaceLaws

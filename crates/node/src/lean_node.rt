@@ -10,17 +10,19 @@ ghost use Rattle.object.specs.OnceOnly.{is_later};
 ghost use Rattle.object.specs.Results.{Becomes, AddsAtEnd};
 ghost use Rattle.slot_log.specs.Decisions.{next_decided, undecided};
 ghost use Rattle.slot_log.specs.Histories.{history};
+ghost use Rattle.replica.specs.CatchingUp.{has_proposed_in_vain};
 ghost use Rattle.replica.specs.Replicas.{proposes_first};
 ghost use Rattle.node.specs.Nodes.{members_of, number_of, new_node, restarted};
 ghost use Rattle.node.specs.Deeds.{said_again, done_if, IsAble, ComesToNothing};
 ghost use Rattle.node.specs.Holding.{new_object, performing_held, own_turn_held, performs_held, outcome_held};
 ghost use Rattle.node.specs.Rests.{rest_of_node};
+ghost use Rattle.node.specs.ComingBack.{node_back, node_from};
 
 use crate::deed::{Deed, Outcome};
 use acceptor::Acceptor;
 use ballot::{Ballot, Letter, Members, Slot};
 use leader::Leader;
-use object::{Answer, Command, Key, Object};
+use object::{Answer, Command, Key, Object, Once};
 use replica::Replica;
 use slot_log::SlotLog;
 use std::alloc::{AllocError, Global};
@@ -68,6 +70,32 @@ impl<O: Object> LeanNode<O> {
             replica: Replica::new(alloc)?,
             alloc,
         })
+    }
+
+    /// Node `number` of these members, as it comes back: with its acceptor, of which the slots below this one are
+    /// forgotten, with this boot, a leader of the first round, and a replica that goes on at the slot, whose object has
+    /// obeyed what was decided before.
+    pub fn come_back(
+        alloc: Global,
+        members: Members,
+        number: u8,
+        mut acceptor: Acceptor<Command<O::Op>>,
+        boot: u64,
+        slot: Slot,
+        object: Once<O>,
+    ) -> LeanNode<O>
+        requires member { is_member members number ≡ true }
+        requires within { boot ≤ 2 ^ 62 }
+        ensures { result ≡ node_back members number acceptor boot slot object }
+    {
+        acceptor.forget(slot.number());
+        LeanNode {
+            acceptor,
+            boot,
+            leader: Leader::new(alloc, members, number, boot),
+            replica: Replica::at(alloc, slot, object),
+            alloc,
+        }
     }
 
     /// The same node once more, but for its object: a new one obeys what its replica performed, as far as that is known.
@@ -120,6 +148,27 @@ impl<O: Object> LeanNode<O> {
         ensures { result ≡ map.contains_key self.now.state.leader.proposals slot }
     {
         self.leader.has_proposal(slot)
+    }
+
+    /// What it promised and accepted.
+    pub fn acceptor(&self) -> &Acceptor<Command<O::Op>>
+        ensures { result.now ≡ self.now.state.acceptor }
+    {
+        &self.acceptor
+    }
+
+    /// How often it came back.
+    pub fn boot(&self) -> u64
+        ensures { result ≡ self.now.state.boot }
+    {
+        self.boot
+    }
+
+    /// The object of its replica, and what its filter knows: it has obeyed what was decided before its `slot_out`.
+    pub fn object(&self) -> &Once<O>
+        ensures { result.now ≡ self.now.object }
+    {
+        self.replica.object()
     }
 
     /// The slots of its replica.
@@ -271,6 +320,25 @@ impl<O: Object> LeanNode<O> {
         );
         self.replica = replica;
         Ok(())
+    }
+
+    /// Whether the object has obeyed nothing of what its replica has proposed for slots before this one. It takes no
+    /// memory.
+    pub fn has_proposed_in_vain(&self, slot: Slot, object: &Once<O>) -> bool
+        ensures { result ≡ has_proposed_in_vain slot object.now self.now.state.replica }
+    {
+        self.replica.has_proposed_in_vain(slot, object)
+    }
+
+    /// It goes on at a higher slot, with this object, which has obeyed what was decided before, and forgets the slots
+    /// before it. What its replica has proposed for these is asked for again. It takes no memory.
+    pub fn catch_up(&mut self, slot: Slot, object: Once<O>)
+        requires { self.old.state.replica.slot_out ≤ slot }
+        ensures { self.new ≡ node_from slot object self.old }
+    {
+        self.acceptor.forget(slot.number());
+        self.leader.forget(slot.number());
+        self.replica.catch_up(slot, object);
     }
 
     /// Forgets the slots below the base, which is at most the slot that its replica performs next. It takes no memory.

@@ -1,5 +1,5 @@
 ghost use Rattle.std.specs.Prelude.{◌≡◌, IsSome, IsOk};
-ghost use Rattle.std.specs.FinMap.{empty, get, insert, remove};
+ghost use Rattle.std.specs.FinMap.{empty, get, insert, remove, from_entries};
 ghost use Rattle.object.specs.Results.{Becomes};
 
 use std::alloc::{AllocError, Global};
@@ -31,6 +31,20 @@ impl Latest {
         Latest {
             numbers: BTreeMap::new(alloc),
         }
+    }
+
+    /// These numbers, by session.
+    pub fn from_map(numbers: BTreeMap<u32, u64>) -> Latest
+        ensures { result ≡ from_entries numbers.entries }
+    {
+        Latest { numbers }
+    }
+
+    /// The numbers, by session.
+    pub fn numbers(&self) -> &BTreeMap<u32, u64>
+        ensures { from_entries result.now.entries ≡ self.now }
+    {
+        &self.numbers
     }
 
     /// The session's number.

@@ -15,6 +15,7 @@ mod value;
 pub use command::{Act, Answer, Command, Key, Submission};
 pub use key_map::KeyMap;
 pub use keyed::Keyed;
+pub use latest::Latest;
 pub use laws::filter_remembers;
 pub use objects::Object;
 pub use once::{Effect, Once};

@@ -48,6 +48,27 @@ impl<O: Object> Once<O> {
         })
     }
 
+    /// This object, behind a filter that knows these numbers.
+    pub fn of(object: O, latest: Latest) -> Once<O>
+        ensures { result ≡ record { object = object; latest = latest } }
+    {
+        Once { object, latest }
+    }
+
+    /// The object.
+    pub fn object(&self) -> &O
+        ensures { result.now ≡ self.now.object }
+    {
+        &self.object
+    }
+
+    /// The greatest number of each session so far.
+    pub fn latest(&self) -> &Latest
+        ensures { result.now ≡ self.now.latest }
+    {
+        &self.latest
+    }
+
     /// Whether a command of this key is later than each earlier one of its session, so that the object would obey it.
     pub fn lets_through(&self, key: Key) -> bool
         ensures { result ≡ is_later key self.now.latest }

@@ -14,6 +14,8 @@ ghost use Rattle.slot_log.specs.Proposals.{next_proposal, proposed_next};
 ghost use Rattle.slot_log.specs.Decisions as deciding;
 ghost use Rattle.slot_log.specs.Histories.{history};
 ghost use Rattle.slot_log.specs.Rests.{rest_of_book};
+ghost use Rattle.slot_log.specs.CatchingUp.{book_from};
+ghost use Rattle.replica.specs.CatchingUp.{has_proposed_in_vain};
 ghost use Rattle.replica.specs.Replicas.{but_last, proposes_first, tells, nudges, proposes_again, asks_others, performed, performed_answers};
 
 use crate::obeying::obeying;
@@ -73,6 +75,26 @@ impl<O: Object> Replica<O> {
         })
     }
 
+    /// A replica with nothing in its slots, which goes on at this one: the object has obeyed what was decided before.
+    pub fn at(alloc: Global, slot: Slot, object: Once<O>) -> Replica<O>
+        ensures slots { result.slots
+            ≡ record new_book { slot_in = slot; slot_out = slot } }
+        ensures object { result.object ≡ object }
+    {
+        Replica {
+            slots: SlotLog::at(alloc, slot),
+            object,
+            alloc,
+        }
+    }
+
+    /// The object, and what its filter knows.
+    pub fn object(&self) -> &Once<O>
+        ensures { result.now ≡ self.now.object }
+    {
+        &self.object
+    }
+
     /// Its slots.
     pub fn slots(&self) -> &SlotLog<Command<O::Op>>
         ensures { result.now ≡ self.now.slots }
@@ -121,6 +143,28 @@ impl<O: Object> Replica<O> {
         ensures { self.new ≡ record self.old { slots = rest_of_book base self.old.slots } }
     {
         self.slots.forget(base);
+    }
+
+    /// Whether the object has obeyed nothing of what it has proposed for slots before this one. It takes no memory.
+    pub fn has_proposed_in_vain(&self, slot: Slot, object: &Once<O>) -> bool
+        ensures { result ≡ has_proposed_in_vain slot object.now self.now.slots }
+    {
+        for (proposed, command) in self.slots.proposals() {
+            if *proposed < slot && !object.lets_through(command.key()) {
+                return false;
+            }
+        }
+        true
+    }
+
+    /// It goes on at a higher slot, with this object, which has obeyed what was decided before. What it has proposed for
+    /// the slots before it is asked for again. It takes no memory.
+    pub fn catch_up(&mut self, slot: Slot, object: Once<O>)
+        requires { self.old.slots.slot_out ≤ slot }
+        ensures { self.new ≡ record { slots = book_from slot self.old.slots; object = object } }
+    {
+        self.slots.catch_up(slot);
+        self.object = object;
     }
 
     /// The least slot with a proposal and without a known decision. It takes no memory.

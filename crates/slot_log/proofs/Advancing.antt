@@ -1,10 +1,11 @@
--- One more decision is performed.
-use Rattle.std.proofs.Common.{◌≡◌, ◌⊎◌, inl, inr, ⊎_elim, ◌≤◌, ◌<◌, ◌+◌, ℕ, Bool, true, false, ◌||◌, Some, None, List}
-use Rattle.std.proofs.Common.{[], ◌∷◌, ◌++◌, length, refl, ap, subst, sym, ◌∙◌, arith}
+-- slot_out grows by one: the decision there is performed, or it lies before slot_in.
+use Rattle.std.proofs.Common.{◌≡◌, ◌⊎◌, inl, inr, ⊎_elim, ◌≤◌, ◌<◌, ◌+◌, ◌^◌, ℕ, Bool, true, false, ◌||◌, Option, Some, None, List}
+use Rattle.std.proofs.Common.{Result, Ok, cond, [], ◌∷◌, ◌++◌, length, refl, ap, subst, sym, ◌∙◌, arith}
 use Rattle.std.proofs.lemmas.Bool.{cases_lt, false≢true}
 use Rattle.std.proofs.lemmas.List.Folds.{list_any-append}
 use Rattle.std.specs.List.{list_any}
-use Rattle.std.specs.Option.{is_some}
+use Rattle.std.specs.Option.{SomeIff, is_some}
+use Rattle.std.specs.Result.{is_ok}
 use Rattle.object.specs.KeyMaps.{at_key, with_key}
 use Rattle.std.specs.declared.collections.VecDeque.{VecDeque}
 use Rattle.std.specs.declared.alloc.Global.{Global}
@@ -25,6 +26,17 @@ use Rattle.slot_log.proofs.Held.{any_taken, any_found, goes_back, is_decided}
 use Rattle.slot_log.proofs.Ranks.{ranked_more, ranked_last}
 use Rattle.slot_log.proofs.Standing.{among, found_moved, placed}
 
+-- what an option is at its value
+pub value_when : {X : Type 0} (P : Type 0) (o : Option X) (v x : X) → SomeIff o P v → o ≡ Some x → x ≡ v
+value_when P o v x iff is = (subst (λ o. SomeIff o P v) is iff).1
+
+-- what a push within the room leaves
+pub pushed : {C T E : Type 0} (now old : List C) (x : C) (r : Result T E) (t : T) → now ≡ cond (is_ok r) (old ++ x ∷ []) old → r ≡ Ok t → now ≡ old ++ x ∷ []
+pushed now old x r t is ok = is ∙ ap (λ r. cond (is_ok r) (old ++ x ∷ []) old) ok
+
+pub longer : {T E : Type 0} (now old : ℕ) (r : Result T E) (t : T) → now ≡ cond (is_ok r) (old + 1) old → r ≡ Ok t → now ≡ old + 1
+longer now old r t is ok = is ∙ ap (λ r. cond (is_ok r) (old + 1) old) ok
+
 module _ {C : Type 0} (same : C → C → Bool) (key_of : C → Key) (exact : (x y : C) → same x y ≡ true → x ≡ y) (itself : (x : C) → same x x ≡ true)
     (a : Inside C) (kept : KeepsBook same key_of a) where
   out_performed : is_some (get a.decisions a.slot_out) ≡ true → (s : ℕ) → a.slot_in ≤ s → s < a.slot_out + 1 → is_some (get a.decisions s) ≡ true
@@ -32,6 +44,17 @@ module _ {C : Type 0} (same : C → C → Bool) (key_of : C → Key) (exact : (x
       ⊎_elim (λ (l : s < a.slot_out). kept.performed s low l)
       (λ (l : a.slot_out ≤ s). let e : a.slot_out ≡ s = omega arith in subst (λ t. is_some (get a.decisions t) ≡ true) e there)
       (cases_lt s a.slot_out)
+
+  -- what is asked of slot_out for that
+  pub record MayPass : Type 0 where
+    pub within : a.slot_out ≤ 2 ^ 62
+    pub performed : (s : ℕ) → a.slot_in ≤ s → s < a.slot_out + 1 → is_some (get a.decisions s) ≡ true
+
+  pub once_decided : is_some (get a.decisions a.slot_out) ≡ true → MayPass
+  once_decided there = record { within = kept.within a.slot_out there; performed = out_performed there }
+
+  pub before_slot_in : a.slot_out < a.slot_in → MayPass
+  before_slot_in before = let numbered = kept.slot_in in record { within = omega arith; performed = λ s low high. absurd (omega arith) }
 
   gone : (s : ℕ) → get a.proposals s ≡ None → get (remove a.proposals a.slot_out) s ≡ None
   gone s none =
@@ -66,19 +89,19 @@ module _ {C : Type 0} (same : C → C → Bool) (key_of : C → Key) (exact : (x
   then rs places = record a { slot_out = a.slot_out + 1; requests = rs; proposals = remove a.proposals a.slot_out; places = places }
 
   -- the fields are kept so, where the places find the same commands
-  out_kept : (rs : VecDeque C Global) (places : Places C) → is_some (get a.decisions a.slot_out) ≡ true
+  out_kept : (rs : VecDeque C Global) (places : Places C) → MayPass
       → deque_len rs + len (remove a.proposals a.slot_out) ≤ deque_capacity rs
       → ((c : C) → is_known same (book_of a) c ≡ is_known same (book_of (then rs places)) c) → places.others.items ≡ a.places.others.items
       → ((c : C) → is_known same (book_of a) c ≡ true → is_found same key_of (at_key places.by_key) (standing (then rs places)) a.places.others.items c ≡ true)
       → KeepsBook same key_of (then rs places)
-  out_kept rs places there room held others found =
-      let within = kept.within a.slot_out there in
+  out_kept rs places passes room held others found =
+      let within = passes.within in
       record {
         slot_in = kept.slot_in;
         slot_out = (omega arith, omega arith);
         front_rank = kept.front_rank;
         within = kept.within;
-        performed = out_performed there;
+        performed = passes.performed;
         numbered = λ s there. kept.numbered s (still_there s there);
         near = still_near;
         ahead = λ s h. gone s (kept.ahead s h);
@@ -88,10 +111,10 @@ module _ {C : Type 0} (same : C → C → Bool) (key_of : C → Key) (exact : (x
       }
 
   -- no proposal was there
-  pub none_kept : get a.proposals a.slot_out ≡ None → is_some (get a.decisions a.slot_out) ≡ true → KeepsBook same key_of (then a.requests a.places)
-  none_kept none there =
+  pub none_kept : get a.proposals a.slot_out ≡ None → MayPass → KeepsBook same key_of (then a.requests a.places)
+  none_kept none passes =
       let left : remove a.proposals a.slot_out ≡ a.proposals = remove_none a.proposals a.slot_out none in
-      out_kept a.requests a.places there (subst (λ (m : Slots C). deque_len a.requests + len m ≤ deque_capacity a.requests) (sym left) kept.room)
+      out_kept a.requests a.places passes (subst (λ (m : Slots C). deque_len a.requests + len m ≤ deque_capacity a.requests) (sym left) kept.room)
       (λ c. ap (λ (m : Slots C). is_known same (record (book_of a) { proposals = m }) c) (sym left)) refl
       (λ c h. ap (λ (m : Slots C). is_found same key_of (at_key a.places.by_key)
       (standing (record a { proposals = m })) a.places.others.items c) left ∙ kept.found c h)
@@ -140,7 +163,7 @@ module _ {C : Type 0} (same : C → C → Bool) (key_of : C → Key) (exact : (x
         → KeepsBook same key_of (then a.requests places)
     won_kept decided places puts leaves others room =
         let keep : (p : Place) (c : C) → standing a p ≡ Some c → (c ≡ x) ⊎ (standing (then a.requests places) p ≡ Some c) = still places in
-        out_kept a.requests places (ap is_some decided) room
+        out_kept a.requests places (once_decided (ap is_some decided)) room
         (λ c.
         ap (λ b. list_any (λ d. same d c) a.requests.items || (b || list_any (λ d. same d c) (values a.decisions)))
         (any_taken (λ d. same d c) a.proposals a.slot_out x own)
@@ -155,8 +178,8 @@ module _ {C : Type 0} (same : C → C → Bool) (key_of : C → Key) (exact : (x
         still places (Proposed s) c there = elsewhere s c there
         still places (Decided s) c there = inr there
 
-    -- the proposal was lost, and goes last in the requests
-    pub lost_kept : is_some (get a.decisions a.slot_out) ≡ true → (rs : VecDeque C Global)
+    -- the proposal goes last in the requests
+    pub lost_kept : MayPass → (rs : VecDeque C Global)
         → rs.items ≡ a.requests.items ++ x ∷ [] → (rank : ℕ) → rank ≡ a.front_rank + length a.requests.items
         → (places : Places C)
         → (among same a.places.others.items x ≡ false → (q : Key) → at_key places.by_key q ≡ with_key (at_key a.places.by_key) (key_of x) (Requested rank) q)
@@ -164,8 +187,8 @@ module _ {C : Type 0} (same : C → C → Bool) (key_of : C → Key) (exact : (x
         → places.others.items ≡ a.places.others.items
         → deque_len rs + len (remove a.proposals a.slot_out) ≤ deque_capacity rs
         → KeepsBook same key_of (then rs places)
-    lost_kept there rs last rank behind places puts leaves others room =
-        out_kept rs places there room
+    lost_kept passes rs last rank behind places puts leaves others room =
+        out_kept rs places passes room
         (λ c.
         ap (λ b. list_any (λ d. same d c) a.requests.items || (b || list_any (λ d. same d c) (values a.decisions)))
         (any_taken (λ d. same d c) a.proposals a.slot_out x own)

@@ -17,3 +17,4 @@ pub mod Windows
 pub mod Advancing
 pub mod Copying
 pub mod Histories
+pub mod CatchingUp

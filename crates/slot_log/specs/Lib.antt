@@ -7,3 +7,4 @@ pub mod Histories
 pub mod Places
 pub mod Kept
 pub mod Rests
+pub mod CatchingUp

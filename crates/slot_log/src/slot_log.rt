@@ -9,6 +9,7 @@ ghost use Rattle.slot_log.specs.Proposals as proposing;
 ghost use Rattle.slot_log.specs.Decisions as deciding;
 ghost use Rattle.slot_log.specs.Advances.{advanced};
 
+mod catching_up;
 mod copying;
 mod forgetting;
 

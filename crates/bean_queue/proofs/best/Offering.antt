@@ -20,7 +20,7 @@ use Rattle.session_store.specs.declared.session.SessionState.{SessionState}
 use Rattle.session_store.specs.Sessions.{with_wait_ended}
 use Rattle.session_store.proofs.TubeSets.{stays_but}
 use Rattle.bean_queue.specs.declared.offers.Offers.{Offers}
-use Rattle.bean_queue.specs.Offers.{offer_cmp, place_of, is_takable, takable_at, next_beside, IsOffered, IsReadyAt, IsCovered, HasOffers}
+use Rattle.bean_queue.specs.Offers.{offer_cmp, offer_place, is_takable, takable_at, next_beside, IsOffered, IsReadyAt, HasOffer, HasOffers}
 use Rattle.bean_queue.specs.Queue.{QueueState, paused_tubes}
 use Rattle.bean_queue.specs.TurnLaws.{next_job-in, least-none}
 use Rattle.bean_queue.specs.Turns.{next_job}
@@ -57,25 +57,25 @@ module _ (old new : Offers) where
   -- a job that is offered too
   pub one-too : (e : ℕ × Job)
       → ((p : ℕ × ℕ) → contains offer_cmp new.places p
-      ≡ cond (is_at (offer_cmp (place_of e)) p) true (contains offer_cmp old.places p))
+      ≡ cond (is_at (offer_cmp (offer_place e)) p) true (contains offer_cmp old.places p))
       → OffersToo old new (Some e)
   one-too e updates p = (
     λ i.
-        elim (is_at (offer_cmp (place_of e)) p) as (λ b. is_at (offer_cmp (place_of e)) p ≡ b
+        elim (is_at (offer_cmp (offer_place e)) p) as (λ b. is_at (offer_cmp (offer_place e)) p ≡ b
         → cond b true (contains offer_cmp old.places p) ≡ true
-        → IsOffered old p ⊎ (Some (place_of e) ≡ Some p)) [
-          | true ↦ λ here _. inr (ap Some (at_place (place_of e) p here))
+        → IsOffered old p ⊎ (Some (offer_place e) ≡ Some p)) [
+          | true ↦ λ here _. inr (ap Some (at_place (offer_place e) p here))
           | false ↦ λ _ was. inl was
         ] refl (sym (updates p) ∙ i),
     λ v.
         updates p ∙
-        elim v as (λ _. cond (is_at (offer_cmp (place_of e)) p) true (contains offer_cmp old.places p) ≡ true) [
-          | inl was ↦ elim (is_at (offer_cmp (place_of e)) p) as (λ b. cond b true (contains offer_cmp old.places p) ≡ true) [
+        elim v as (λ _. cond (is_at (offer_cmp (offer_place e)) p) true (contains offer_cmp old.places p) ≡ true) [
+          | inl was ↦ elim (is_at (offer_cmp (offer_place e)) p) as (λ b. cond b true (contains offer_cmp old.places p) ≡ true) [
             | true ↦ refl
             | false ↦ was
           ]
           | inr same ↦ ap (λ b. cond b true (contains offer_cmp old.places p))
-              (subst (λ q. is_at (offer_cmp (place_of e)) q ≡ true) (the_place (place_of e) p same) (at_itself (place_of e)))
+              (subst (λ q. is_at (offer_cmp (offer_place e)) q ≡ true) (the_place (offer_place e) p same) (at_itself (offer_place e)))
         ],
   )
 
@@ -103,11 +103,11 @@ none-too offers p = (λ i. inl i, λ v. elim v as (λ _. IsOffered offers p) [ i
 -- a place that is taken out, and then a job that is offered too
 pub too-instead : (old mid new : Offers) (k : ℕ × ℕ) (o : Option (ℕ × Job)) → Withdraws old mid k → OffersToo mid new o → OffersInstead old new k o
 too-instead old mid new k o gone too p = (
-  λ i. elim ((too p).0 i) as (λ _. (IsOffered old p × (p ≡ k → ⊥)) ⊎ (option_map place_of o ≡ Some p)) [
+  λ i. elim ((too p).0 i) as (λ _. (IsOffered old p × (p ≡ k → ⊥)) ⊎ (option_map offer_place o ≡ Some p)) [
     | inl was ↦ inl ((gone p).0 was)
     | inr here ↦ inr here
   ],
-  λ v. (too p).1 (elim v as (λ _. IsOffered mid p ⊎ (option_map place_of o ≡ Some p)) [
+  λ v. (too p).1 (elim v as (λ _. IsOffered mid p ⊎ (option_map offer_place o ≡ Some p)) [
     | inl was ↦ inl ((gone p).1 was)
     | inr here ↦ inr here
   ]),
@@ -120,20 +120,20 @@ module _ (tube : List ℕ) (jobs : List (ℕ × Job)) where
   alone = (among-member tube (tube ∷ [])).1 (inl refl)
 
   -- at its place a ready job stands
-  next-ready : (p : ℕ × ℕ) → option_map place_of (first_ready tube jobs) ≡ Some p → IsReadyAt jobs p
+  next-ready : (p : ℕ × ℕ) → option_map offer_place (first_ready tube jobs) ≡ Some p → IsReadyAt jobs p
   next-ready p e =
-      elim (first_ready tube jobs) as (λ o. first_ready tube jobs ≡ o → option_map place_of o ≡ Some p → IsReadyAt jobs p) [
+      elim (first_ready tube jobs) as (λ o. first_ready tube jobs ≡ o → option_map offer_place o ≡ Some p → IsReadyAt jobs p) [
         | None ↦ λ _ never. absurd (no_place p never)
         | Some d ↦ λ first here.
             let best = best_is (tube ∷ []) jobs d first in
             let tests = and_parts (is_ready d.1.state) (is_among d.1.tube (tube ∷ [])) best.passes in
-            subst (IsReadyAt jobs) (the_place (place_of d) p here)
+            subst (IsReadyAt jobs) (the_place (offer_place d) p here)
             (record { job = d.1; there = best.member; ready = tests.0; pri = refl })
       ] refl e
 
   -- and a ready job of the tube doesn't come before it
   next-covers : (offers : Offers) (j : ℕ × Job) → In j jobs → is_ready j.1.state ≡ true → j.1.tube ≡ tube
-      → ((p : ℕ × ℕ) → option_map place_of (first_ready tube jobs) ≡ Some p → IsOffered offers p) → IsCovered offers jobs j
+      → ((p : ℕ × ℕ) → option_map offer_place (first_ready tube jobs) ≡ Some p → IsOffered offers p) → HasOffer offers jobs j
   next-covers offers j there ready its offered =
       let best = best_for (tube ∷ []) jobs j there
       (and_from (is_ready j.1.state) (is_among j.1.tube (tube ∷ [])) ready
@@ -145,7 +145,7 @@ module _ (tube : List ℕ) (jobs : List (ℕ × Job)) where
         tube =
             in_one tube best.0.1.tube (and_parts (is_ready best.0.1.state) (is_among best.0.1.tube (tube ∷ [])) least.passes).1 ∙ sym its;
         not_after = best.2;
-        offered = offered (place_of best.0) (ap (option_map place_of) best.1);
+        offered = offered (offer_place best.0) (ap (option_map offer_place) best.1);
       }
 
 -- The job at a place
@@ -184,11 +184,11 @@ module _ (takes : List ℕ → Bool) (jobs : List (ℕ × Job)) (hi : ℕ) (r : 
               let c = has.each d there t in
               never_between pri_of_job d (p.1, at.job) c.job
               (λ first. true≢false
-              (sym (is_above p (place_of c.job)
+              (sym (is_above p (offer_place c.job)
               (elim first as (λ _. (c.job.1.pri < p.0) ⊎ ((c.job.1.pri ≡ p.0) × (c.job.0 < p.1))) [
                 | inl below ↦ inl (subst (λ n. c.job.1.pri < n) (sym at.pri) below)
                 | inr even ↦ inr (even.0 ∙ sym at.pri, even.1)
-              ])) ∙ lowest (place_of c.job) c.offered))
+              ])) ∙ lowest (offer_place c.job) c.offered))
               c.not_after before;
         })
 
@@ -196,7 +196,7 @@ module _ (takes : List ℕ → Bool) (jobs : List (ℕ × Job)) (hi : ℕ) (r : 
     pub none-takable : offers.places.keys ≡ [] → NonePasses (is_takable takes) jobs
     none-takable empty e there t =
         let c = has.each e there t in
-        true≢false (sym c.offered ∙ ap (λ ps. list_any (is_at (offer_cmp (place_of c.job))) ps) empty)
+        true≢false (sym c.offered ∙ ap (λ ps. list_any (is_at (offer_cmp (offer_place c.job))) ps) empty)
 
     -- an offer whose tube has no taker isn't needed
     pub still-offers : (offers' : Offers) (p : ℕ × ℕ) → None ≡ takable_at takes p.1 jobs → Withdraws offers offers' p → HasOffers offers' takes jobs
@@ -211,7 +211,7 @@ module _ (takes : List ℕ → Bool) (jobs : List (ℕ × Job)) (hi : ℕ) (r : 
             tube = c.tube;
             not_after = c.not_after;
             offered =
-                (gone (place_of c.job)).1 (
+                (gone (offer_place c.job)).1 (
                   c.offered,
                   λ same. no_job c.job.1 (none ∙ takable-found c.job p.1 c.there (ap (λ (q : ℕ × ℕ). q.1) same) its),
                 );
@@ -232,7 +232,7 @@ module _ (takes : List ℕ → Bool) (jobs : List (ℕ × Job)) (hi : ℕ) (r : 
           value-in d.0 d.1 (altered e.0 f jobs) (value_at-altered_other e.0 d.0 f jobs apart ∙ value_at-In 0 hi jobs d r there)
 
       pub given-offers : (takes' : List ℕ → Bool) (offers' : Offers) → ((tube : List ℕ) → takes' tube ≡ true → takes tube ≡ true)
-          → OffersInstead offers offers' (place_of e) (next_beside e.0 (altered e.0 f jobs))
+          → OffersInstead offers offers' (offer_place e) (next_beside e.0 (altered e.0 f jobs))
           → HasOffers offers' takes' (altered e.0 f jobs)
       given-offers takes' offers' fewer instead = record {
         ready = λ p i. elim ((instead p).0 i) as (λ _. IsReadyAt (altered e.0 f jobs) p) [
@@ -248,25 +248,25 @@ module _ (takes : List ℕ → Bool) (jobs : List (ℕ × Job)) (hi : ℕ) (r : 
                 ready = at.ready;
                 pri = at.pri;
               }
-          | inr here ↦ next-ready e.1.tube (altered e.0 f jobs) p (sym (ap (option_map place_of) next-beside) ∙ here)
+          | inr here ↦ next-ready e.1.tube (altered e.0 f jobs) p (sym (ap (option_map offer_place) next-beside) ∙ here)
         ];
         each = λ j there t.
             let tests = and_parts (is_ready j.1.state) (takes' j.1.tube) t in
             let c = has.each j (changed-calmer e.0 f jobs unready j there tests.0)
             (and_from (is_ready j.1.state) (takes j.1.tube) tests.0 (fewer j.1.tube tests.1)) in
-            elim (cases_eq e.0 c.job.0) as (λ _. IsCovered offers' (altered e.0 f jobs) j) [
+            elim (cases_eq e.0 c.job.0) as (λ _. HasOffer offers' (altered e.0 f jobs) j) [
               | inl same ↦
                   let it : c.job ≡ e = same_entry 0 hi jobs c.job e r c.there its (sym same) in
                   next-covers e.1.tube (altered e.0 f jobs) offers' j there tests.0
                   (sym c.tube ∙ ap (λ (d : ℕ × Job). d.1.tube) it)
-                  (λ p here. (instead p).1 (inr (ap (option_map place_of) next-beside ∙ here)))
+                  (λ p here. (instead p).1 (inr (ap (option_map offer_place) next-beside ∙ here)))
               | inr apart ↦ record {
                 job = c.job;
                 there = others-stay c.job c.there apart;
                 tube = c.tube;
                 not_after = c.not_after;
                 offered =
-                    (instead (place_of c.job)).1
+                    (instead (offer_place c.job)).1
                     (inl (c.offered, λ same. apart (sym (ap (λ (q : ℕ × ℕ). q.1) same))));
               }
             ];
@@ -294,7 +294,7 @@ shown-some show (Some a) e = refl
 -- each offer is a ready job; and the tube of each ready job that is takable is still to come, or it is covered
 pub record AreGathered (offers : Offers) (takes : List ℕ → Bool) (jobs : List (ℕ × Job)) (rest : List (List ℕ)) : Type 0 where
   pub ready : (p : ℕ × ℕ) → IsOffered offers p → IsReadyAt jobs p
-  pub each : (j : ℕ × Job) → In j jobs → is_takable takes j ≡ true → In j.1.tube rest ⊎ IsCovered offers jobs j
+  pub each : (j : ℕ × Job) → In j jobs → is_takable takes j ≡ true → In j.1.tube rest ⊎ HasOffer offers jobs j
 
 -- what is left of some tubes
 pub cut-tubes : (xs : List (List ℕ)) (i : ℕ) (x y : List ℕ) → i < length xs → x ≡ get_or xs i y → drop i xs ≡ x ∷ drop (i + 1) xs
@@ -308,7 +308,7 @@ module _ (takes : List ℕ → Bool) (jobs : List (ℕ × Job)) where
   pub gathered-all : (offers : Offers) (rest : List (List ℕ)) → rest ≡ [] → AreGathered offers takes jobs rest → HasOffers offers takes jobs
   gathered-all offers rest end g = record {
     ready = g.ready;
-    each = λ j there t. elim (g.each j there t) as (λ _. IsCovered offers jobs j) [
+    each = λ j there t. elim (g.each j there t) as (λ _. HasOffer offers jobs j) [
       | inl later ↦ absurd (subst (In j.1.tube) end later)
       | inr covered ↦ covered
     ];
@@ -319,8 +319,8 @@ module _ (takes : List ℕ → Bool) (jobs : List (ℕ × Job)) where
       → AreGathered offers takes jobs items → AreGathered offers takes jobs rest
   gathered-other offers tube items rest cut none g = record {
     ready = g.ready;
-    each = λ j there t. elim (g.each j there t) as (λ _. In j.1.tube rest ⊎ IsCovered offers jobs j) [
-      | inl later ↦ elim (subst (In j.1.tube) cut later) as (λ _. In j.1.tube rest ⊎ IsCovered offers jobs j) [
+    each = λ j there t. elim (g.each j there t) as (λ _. In j.1.tube rest ⊎ HasOffer offers jobs j) [
+      | inl later ↦ elim (subst (In j.1.tube) cut later) as (λ _. In j.1.tube rest ⊎ HasOffer offers jobs j) [
         | inl here ↦ absurd (true≢false (sym (and_parts (is_ready j.1.state) (takes j.1.tube) t).1 ∙ ap takes here ∙ none))
         | inr further ↦ inl further
       ]
@@ -336,8 +336,8 @@ module _ (takes : List ℕ → Bool) (jobs : List (ℕ × Job)) where
       | inl was ↦ g.ready p was
       | inr here ↦ next-ready tube jobs p here
     ];
-    each = λ j there t. elim (g.each j there t) as (λ _. In j.1.tube rest ⊎ IsCovered offers' jobs j) [
-      | inl later ↦ elim (subst (In j.1.tube) cut later) as (λ _. In j.1.tube rest ⊎ IsCovered offers' jobs j) [
+    each = λ j there t. elim (g.each j there t) as (λ _. In j.1.tube rest ⊎ HasOffer offers' jobs j) [
+      | inl later ↦ elim (subst (In j.1.tube) cut later) as (λ _. In j.1.tube rest ⊎ HasOffer offers' jobs j) [
         | inl here ↦ inr (next-covers tube jobs offers' j there (and_parts (is_ready j.1.state) (takes j.1.tube) t).0 here (λ p e. (too p).1 (inr e)))
         | inr further ↦ inl further
       ]
@@ -346,7 +346,7 @@ module _ (takes : List ℕ → Bool) (jobs : List (ℕ × Job)) where
         there = c.there;
         tube = c.tube;
         not_after = c.not_after;
-        offered = (too (place_of c.job)).1 (inl c.offered);
+        offered = (too (offer_place c.job)).1 (inl c.offered);
       })
     ];
   }
@@ -357,7 +357,7 @@ module _ (takes : List ℕ → Bool) (jobs : List (ℕ × Job)) where
 pub served-offers : (s : QueueState) (offers offers' : Offers) (e : ℕ × Job) (x due hi : ℕ) (jobs shown : List (ℕ × Job))
     (sessions : List (ℕ × SessionState)) → Rising 0 hi s.jobs → OffersJobsOf offers s → next_job s ≡ Some e
     → jobs ≡ altered e.0 (reserved_job x due) s.jobs → sessions ≡ with_wait_ended x s.sessions → shown ≡ jobs
-    → OffersInstead offers offers' (place_of e) (next_beside e.0 shown)
+    → OffersInstead offers offers' (offer_place e) (next_beside e.0 shown)
     → HasOffers offers' (has_taker (paused_tubes s) sessions) jobs
 served-offers s offers offers' e x due hi jobs shown sessions r has next made ended seen_jobs instead =
     let its = (subst (λ o. IfSome o (λ j. In j s.jobs × (is_ready j.1.state ≡ true))) next (next_job-in s)).0 in
@@ -365,4 +365,4 @@ served-offers s offers offers' e x due hi jobs shown sessions r has next made en
     (subst (λ ss. HasOffers offers' (has_taker (paused_tubes s) ss) (altered e.0 (reserved_job x due) s.jobs)) (sym ended)
     (given-offers (has_taker (paused_tubes s) s.sessions) s.jobs hi r offers has (reserved_job x due) (λ job. refl) (λ job. refl) e its
     (has_taker (paused_tubes s) (with_wait_ended x s.sessions)) offers' (taker-before (paused_tubes s) x s.sessions)
-    (subst (λ js. OffersInstead offers offers' (place_of e) (next_beside e.0 js)) (seen_jobs ∙ made) instead)))
+    (subst (λ js. OffersInstead offers offers' (offer_place e) (next_beside e.0 js)) (seen_jobs ∙ made) instead)))

@@ -1,6 +1,6 @@
 -- Where nothing is left to give, nothing is after less: fewer ready jobs, and fewer sessions that wait.
 use Rattle.std.proofs.Common.{◌≡◌, ℕ, ◌+◌, Bool, true, false, cond, inl, inr, List, [], ◌∷◌, ◌++◌, append-nil}
-use Rattle.std.proofs.Common.{filter_map, length, Option, Some, None, is_some, ◌==◌, nat_lt, refl, sym, ap, subst, ◌∙◌}
+use Rattle.std.proofs.Common.{filter_map, length, Option, Some, None, is_some, IsSome, ◌==◌, nat_lt, refl, sym, ap, subst, ◌∙◌}
 use Rattle.std.proofs.Common.{eqb-true, true≢false}
 use Rattle.std.proofs.lemmas.Bool.{and_parts, and_from}
 use Rattle.std.specs.List.{cons_option}
@@ -24,7 +24,7 @@ use Rattle.bean_queue.specs.Queue.{QueueState, paused_tubes, with_sessions, fres
 use Rattle.bean_queue.specs.Rows.{Row, settled, row, put_row, use_row, watch_row, ignore_row, reserve_row, delete_row}
 use Rattle.bean_queue.specs.Rows.{may_delete, delete_found, is_job_that, release_row, touch_row, bury_row, kick_row, kick_job_row}
 use Rattle.bean_queue.specs.Rows.{is_unreserved, reserve_found, reserve_job_row, peek_row, stats_job_row, stats_tube_row, stats_row}
-use Rattle.bean_queue.specs.Turns.{QueueOutcome, after_option, QueueTurn, stop, all_turns, wanted, give, serve_turn}
+use Rattle.bean_queue.specs.Turns.{QueueOutcome, after_option, QueueTurn, stop, all_turns, wanted, next_job, give, serve_turn}
 use Rattle.bean_queue.specs.Turns.{told_turn, deadline_turn, timeout_turn, serve}
 use Rattle.bean_queue.specs.Effects.{own, own_outcome, then_do, with_ask_noted, called, ends_wait, is_zero, turned_away, has_no_number}
 use Rattle.bean_queue.specs.Effects.{carried_out, do_effect, released, forgotten, second_begun, tick_effect, is_quiet}
@@ -63,6 +63,16 @@ pub no-turn : (s : QueueState)
     → best_ready (not_paused (paused_tubes s) w.1.watched) s.jobs ≡ None) → serve_turn s ≡ None
 unfolding serve_turn
 no-turn s h = ap (λ es. give s (least (λ e. true) pri_of_job es)) (none-wanted (paused_tubes s) s.jobs s.sessions h)
+
+-- where there is a job to give, there is a turn
+pub next-serves : (s : QueueState) → IsSome (next_job s) → IsSome (serve_turn s)
+next-serves s some =
+    elim (serve_turn s) as (λ o. serve_turn s ≡ o → IsSome o) [
+      | None ↦ λ none.
+          let idle : filter_map (wanted (paused_tubes s) s.jobs) s.sessions ≡ [] = none-wanted (paused_tubes s) s.jobs s.sessions (idle_none s none) in
+          absurd (true≢false (sym some ∙ ap (λ es. is_some (least (λ (e : ℕ × Job). true) pri_of_job es)) idle))
+      | Some t ↦ λ turn. refl
+    ] refl
 
 pub calm : (s t : QueueState) → serve_turn s ≡ None → IsCalmer s t → serve_turn t ≡ None
 calm s t none c =
@@ -316,8 +326,3 @@ tick-calm second s none =
 pub fresh-calm : serve_turn fresh ≡ None
 unfolding serve_turn
 fresh-calm = refl
-
--- a state that was kept, and came of an effect that leaves nothing to give
-pub kept-calm : (effect kept before now : QueueState) → serve_turn effect ≡ None → kept ≡ effect → now ≡ kept
-    → before ≡ kept → (before ≡ now) × (serve_turn now ≡ None)
-kept-calm effect kept before now none e n b = (b ∙ sym n, ap serve_turn (n ∙ e) ∙ none)

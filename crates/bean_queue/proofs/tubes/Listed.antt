@@ -1,10 +1,10 @@
 -- Which tubes there are doesn't change by a call: a session that is made uses and watches `default` alone.
-use Rattle.std.proofs.Common.{◌≡◌, ◌⊎◌, inl, inr, ℕ, ◌==◌, Bool, true, false, cond, List, [], ◌∷◌, Option, None, is_some, codes}
+use Rattle.std.proofs.Common.{◌≡◌, ◌⊎◌, inl, inr, ℕ, ◌==◌, Bool, true, false, cond, List, [], ◌∷◌, Option, None, is_some}
 use Rattle.std.proofs.Common.{Some, refl, sym, ap, subst, ◌∙◌, true≢false}
 use Rattle.std.proofs.lemmas.Bool.{cond-false}
 use Rattle.object.specs.Lists.{In}
 use Rattle.object.specs.declared.command.Key.{Key}
-use Rattle.job_store.specs.Entries.{value_at, with_value, altered, without}
+use Rattle.job_store.specs.Entries.{value_at, with_value, altered}
 use Rattle.job_store.specs.EntryLaws.{altered-in, without-in, insert-in, without-insert}
 use Rattle.session_store.specs.declared.session.SessionState.{SessionState}
 use Rattle.session_store.specs.Sessions.{new_session, known, with_wait, with_wait_ended}
@@ -26,7 +26,7 @@ of-session : (s : QueueState) (t : List ℕ) (w : ℕ × SessionState) → In w 
 of-session s t w i (inl used) = IsTube.used w i used
 of-session s t w i (inr watched) = IsTube.watched w i watched
 
-in-altered : {X : Type 0} (k : ℕ) (f : X → X) (es : List (ℕ × X)) (d : ℕ × X) → In d es
+pub in-altered : {X : Type 0} (k : ℕ) (f : X → X) (es : List (ℕ × X)) (d : ℕ × X) → In d es
     → In (d.0, cond (k == d.0) (f d.1) d.1) (altered k f es)
 in-altered k f [] d i = absurd i
 in-altered {X} k f (e ∷ es) d (inl same) = inl (ap (λ (p : ℕ × X). (p.0, cond (k == p.0) (f p.1) p.1)) same)

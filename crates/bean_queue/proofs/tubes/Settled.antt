@@ -65,6 +65,11 @@ unfolding left_counts
 settled-gone tube s gone =
     filter-alike (λ e. not (bytes_eq tube e.0)) (stays (tube ∷ []) s) (λ e. without-tube tube s e gone) s.tubes
 
+-- a tube that list-tubes names is kept, and one that is paused
+pub either-kept : (s : QueueState) (tube : List ℕ) → (is_among tube (all_tubes s) ≡ true) ⊎ (is_paused tube s.pauses ≡ true) → is_kept s tube ≡ true
+either-kept s tube (inl there) = ap (λ b. b || is_paused tube s.pauses) there
+either-kept s tube (inr paused) = ap (λ b. is_among tube (all_tubes s) || b) paused ∙ or-true (is_among tube (all_tubes s))
+
 kept-tube : (tube : List ℕ) (s : QueueState) (e : List ℕ × TubeCounts) → is_kept s tube ≡ true → stays (tube ∷ []) s e ≡ true
 kept-tube tube s e kept =
     elim (cases_Bool (bytes_eq e.0 tube)) as (λ v. stays (tube ∷ []) s e ≡ true) [

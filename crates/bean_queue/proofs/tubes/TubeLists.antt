@@ -67,7 +67,7 @@ module _ {X : Type 0} where
   behind x [] ys i = i
   behind x (y ∷ xs) ys i = inr (behind x xs ys i)
 
-abbrev tubes_of_jobs : List (ℕ × Job) → List (List ℕ)
+abbrev pub tubes_of_jobs : List (ℕ × Job) → List (List ℕ)
 tubes_of_jobs jobs = map (λ e. e.1.tube) jobs
 
 abbrev pub tubes_of_sessions : List (ℕ × SessionState) → List (List ℕ)

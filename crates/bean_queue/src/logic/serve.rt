@@ -1,4 +1,4 @@
-ghost use Rattle.std.specs.Prelude.{◌≡◌, ◌+◌, ◌^◌, true, IfOk, option_map};
+ghost use Rattle.std.specs.Prelude.{◌≡◌, ◌+◌, ◌^◌, true, IsSome, IfOk, OnErr, option_map};
 ghost use Rattle.job_store.specs.Entries.{Rising};
 ghost use Rattle.session_store.specs.Fronts.{AreFronts};
 ghost use Rattle.session_store.specs.LateLines.{HasLate};
@@ -29,6 +29,7 @@ impl<M: JobMap> Logic<M> {
         requires covers { Covers woken.now self.now.now }
         requires fronts { AreFronts fronts.old self.now.now.sessions }
         ensures offers { IfOk result (λ offers. OffersJobsOf offers self.now.now) }
+        ensures err { OnErr result (IsSome (serve_turn self.now.now)) }
         ensures fronts { AreFronts fronts.new self.now.now.sessions }
     {
         offers_of(
@@ -65,6 +66,7 @@ impl<M: JobMap> Logic<M> {
         requires fronts { AreFronts fronts.old self.old.now.sessions }
         ensures turn { DraftsTurn serve_turn self.old self.new answers.old.items answers.new.items
             result }
+        ensures err { OnErr result (IsSome (serve_turn self.old.now)) }
         ensures offers { IfOk result (λ more. OffersJobsOf offers.new self.new.now) }
         ensures fronts { IfOk result (λ more. AreFronts fronts.new self.new.now.sessions) }
     {
@@ -92,15 +94,16 @@ impl<M: JobMap> Logic<M> {
         Ok(true)
     }
 
-    /// Gives jobs of these tubes to waiting sessions, while there is one for them.
+    /// Gives jobs of these tubes to waiting sessions, while there is one for them. It takes no memory where there is none.
     pub fn serve(
         &mut self,
         woken: &[Name],
         answers: &mut Vec<Answer<Reply>>,
     ) -> Result<(), AllocError>
         requires { Covers woken.now self.old.now }
-        ensures { DraftsOutcome self.old self.new answers.old.items answers.new.items
+        ensures turns { DraftsOutcome self.old self.new answers.old.items answers.new.items
             (all_turns serve_turn self.old.now) result }
+        ensures err { OnErr result (IsSome (serve_turn self.old.now)) }
     {
         let mut fronts = self.sessions.fronts();
         let mut offers = self.offers(*answers.allocator(), woken, &mut fronts)?;
@@ -119,6 +122,7 @@ impl<M: JobMap> Logic<M> {
             self.old.now.sessions }
         ensures turn { DraftsTurn deadline_turn self.old self.new answers.old.items
             answers.new.items result }
+        ensures err { OnErr result (IsSome (deadline_turn self.old.now)) }
         ensures left { IfOk result (λ more. more ≡ true → HasAllHolders line.new
             (self.new.now.now + 1) self.new.now.jobs self.new.now.sessions) }
     {
@@ -138,14 +142,15 @@ impl<M: JobMap> Logic<M> {
         Ok(true)
     }
 
-    /// Tells all waiting sessions with a job due within a second so.
+    /// Tells all waiting sessions with a job due within a second so. It takes no memory where there is none.
     pub fn tell_deadlines(
         &mut self,
         alloc: Global,
         answers: &mut Vec<Answer<Reply>>,
     ) -> Result<(), AllocError>
-        ensures { DraftsOutcome self.old self.new answers.old.items answers.new.items
+        ensures turns { DraftsOutcome self.old self.new answers.old.items answers.new.items
             (all_turns deadline_turn self.old.now) result }
+        ensures err { OnErr result (IsSome (deadline_turn self.old.now)) }
     {
         let second = self.counters.now + 1;
         let holders = holders_by(alloc, self.jobs.map(), self.sessions.map(), second)?;
@@ -163,6 +168,7 @@ impl<M: JobMap> Logic<M> {
         requires { HasLate self.old.now.now late.old self.old.now.sessions }
         ensures turn { DraftsTurn timeout_turn self.old self.new answers.old.items answers.new.items
             result }
+        ensures err { OnErr result (IsSome (timeout_turn self.old.now)) }
         ensures left { IfOk result (λ more. more ≡ true
             → HasLate self.new.now.now late.new self.new.now.sessions) }
     {
@@ -181,10 +187,11 @@ impl<M: JobMap> Logic<M> {
         Ok(true)
     }
 
-    /// Tells all sessions whose wait is over so.
+    /// Tells all sessions whose wait is over so. It takes no memory where there is none.
     pub fn tell_timeouts(&mut self, answers: &mut Vec<Answer<Reply>>) -> Result<(), AllocError>
-        ensures { DraftsOutcome self.old self.new answers.old.items answers.new.items
+        ensures turns { DraftsOutcome self.old self.new answers.old.items answers.new.items
             (all_turns timeout_turn self.old.now) result }
+        ensures err { OnErr result (IsSome (timeout_turn self.old.now)) }
     {
         let mut late = self.sessions.late(self.counters.now)?;
         'turns: while self.tell_timeout(&mut late, answers)? {}

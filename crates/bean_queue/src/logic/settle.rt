@@ -1,33 +1,38 @@
-ghost use Rattle.std.specs.Prelude.{◌≡◌, ◌∷◌, []};
-ghost use Rattle.bean_queue.specs.Rows.{is_kept, settled};
+ghost use Rattle.std.specs.Prelude.{◌≡◌, ◌∷◌, [], true};
+ghost use Rattle.job_store.specs.LookUps.{is_among};
+ghost use Rattle.bean_queue.specs.Rows.{settled};
+ghost use Rattle.bean_queue.specs.Staying.{AreTubes};
+ghost use Rattle.bean_queue.specs.Tubes.{all_tubes};
 
 use crate::logic::Logic;
 use bean_words::Name;
 use job_store::JobMap;
 
 impl<M: JobMap> Logic<M> {
-    /// Whether list-tubes names a tube, or it is paused.
-    fn is_kept(&self, tube: &Name) -> bool
-        ensures { result ≡ is_kept self.now.now tube.now }
+    /// Takes the counts of a tube out, unless list-tubes names it or it is paused, and tells whether list-tubes names it.
+    /// That can't be taken back.
+    pub fn settle(&mut self, tube: &Name) -> bool
+        ensures counts { self.new.now ≡ settled (tube.now ∷ []) self.old.now }
+        ensures there { result ≡ is_among tube.now (all_tubes self.new.now) }
     {
-        self.is_tube(tube) || self.pauses.is_paused(tube)
-    }
-
-    /// Takes the counts of a tube out, unless it is kept. That can't be taken back.
-    pub fn settle(&mut self, tube: &Name)
-        ensures { self.new.now ≡ settled (tube.now ∷ []) self.old.now }
-    {
-        if !self.is_kept(tube) {
+        let there = self.is_tube(tube);
+        if !there && !self.pauses.is_paused(tube) {
             self.tubes.forget_for_good(tube);
         }
+        there
     }
 
-    /// Takes the counts of these tubes out, but for those that are kept. That can't be taken back.
-    pub fn settle_all(&mut self, tubes: &[Name])
-        ensures { self.new.now ≡ settled tubes.now self.old.now }
+    /// Takes the counts of these tubes out, but for those that list-tubes names or that are paused, and tells whether
+    /// list-tubes names all of them. That can't be taken back.
+    pub fn settle_all(&mut self, tubes: &[Name]) -> bool
+        ensures counts { self.new.now ≡ settled tubes.now self.old.now }
+        ensures there { result ≡ true → AreTubes tubes.now self.new.now }
     {
+        let mut there = true;
         for tube in tubes {
-            self.settle(tube);
+            let one = self.settle(tube);
+            there = there && one;
         }
+        there
     }
 }

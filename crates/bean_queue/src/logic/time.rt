@@ -4,6 +4,7 @@ ghost use Rattle.pause_store.specs.Pauses.{tubes_over};
 ghost use Rattle.bean_queue.specs.Effects.{released, forgotten, second_begun, second_passed};
 ghost use Rattle.bean_queue.specs.Turns.{serve, serve_turn};
 ghost use Rattle.bean_queue.specs.Calls.{DraftsOutcome, DraftsWaking};
+ghost use Rattle.bean_queue.specs.Tubes.{all_tubes};
 
 use crate::logic::Logic;
 use crate::ready_again::{make_due_ready, release_held};
@@ -89,13 +90,19 @@ impl<M: JobMap> Logic<M> {
         self.serve(woken.as_slice(), answers)
     }
 
-    /// Forgets a session, and the counts of tubes that it leaves.
-    pub fn forget(&mut self, session: u32)
-        ensures { self.new.now ≡ forgotten session self.old.now }
+    /// Forgets a session, and the counts of tubes that it leaves, and tells whether all tubes are still there.
+    pub fn forget(&mut self, session: u32) -> bool
+        ensures state { self.new.now ≡ forgotten session self.old.now }
+        ensures stay { result ≡ true → all_tubes self.new.now ≡ all_tubes self.old.now }
     {
-        if let Some(gone) = self.sessions.remove_for_good(session) {
-            self.settle(&gone.used);
-            self.settle_all(gone.watched.as_slice());
+        self.numbers_rise();
+        match self.sessions.remove_for_good(session) {
+            Some(gone) => {
+                let used = self.settle(&gone.used);
+                let watched = self.settle_all(gone.watched.as_slice());
+                used && watched
+            }
+            None => true,
         }
     }
 }

@@ -12,7 +12,7 @@ use std::alloc::AllocError;
 
 impl<M: JobMap> Logic<M> {
     /// The tube of the job at an id, if there is one.
-    fn tube_of(&self, id: u64) -> Result<Option<Name>, AllocError>
+    pub fn tube_of(&self, id: u64) -> Result<Option<Name>, AllocError>
         ensures { IfOk result (λ tube. option_to_list tube ≡ tube_of (value_at id self.now.now.jobs)) }
     {
         match self.jobs.map().get(id) {

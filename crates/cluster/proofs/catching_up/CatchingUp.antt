@@ -1,13 +1,12 @@
 -- A node is told decisions and performs them, until it has come to a slot.
 use Rattle.agreement.proofs.books.SlotBooksEvery.{books}
-use Rattle.forgetting.proofs.Gone.{flat_two}
 use Rattle.std.specs.Option.{option_to_list}
 use Rattle.std.specs.List.{range_with_len}
-use Rattle.std.proofs.Common.{inl, inr, true≢false, append_assoc, ◌-◌, ◌≡◌, ◌≢◌, ℕ, ◌+◌, ◌*◌, ◌<◌, ◌≤◌, Bool, true}
+use Rattle.std.proofs.Common.{inl, inr, append_assoc, ◌-◌, ◌≡◌, ◌≢◌, ℕ, ◌+◌, ◌*◌, ◌<◌, ◌≤◌, Bool, true}
 use Rattle.std.proofs.Common.{false, cond, List, [], ◌∷◌, ◌++◌, length}
 use Rattle.std.proofs.Common.{Some, None, Option, refl, sym, ap, ◌∙◌, subst, append-nil, arith}
 use Rattle.std.specs.Prelude.{slice_get, nat_le, flat_map}
-use Rattle.std.specs.FinMap.{get, insert, remove, get-insert, get-remove}
+use Rattle.std.specs.FinMap.{get, insert, get-insert}
 use Rattle.std.specs.Ordering.{nat_cmp, eq_by_cmp}
 use Rattle.std.specs.Cmp.{nat_cmp_total}
 use Rattle.std.proofs.lemmas.Bool.Decides.{nat_tests}
@@ -24,7 +23,9 @@ use Rattle.ballot.specs.declared.letter.LetterBody.TheVariants.{Decision}
 use Rattle.ballot.proofs.Rests.{get_above, get_high}
 use Rattle.ballot.proofs.SlotMaps.{same_slots, same_key}
 use Rattle.slot_log.specs.Advances.{advanced, lost}
+use Rattle.slot_log.specs.CatchingUp.{proposed_upto}
 use Rattle.slot_log.specs.Decisions.{learnt, next_decided}
+use Rattle.slot_log.proofs.CatchingUp.{remove_kept, proposed_more}
 use Rattle.node.specs.Nodes.{NodeState}
 use Rattle.node.specs.Receiving.{Receives, learns}
 use Rattle.node.specs.SlotLaws.{get_insert_same}
@@ -39,7 +40,7 @@ use Rattle.agreement.proofs.chosen.Reach.{reachable_sound}
 use Rattle.agreement.proofs.chosen.Turns as turns
 use Rattle.agreement.proofs.every.Every.{goes_on}
 use Rattle.forgetting.proofs.Bases.{above_twice}
-use Rattle.cluster.specs.CatchingUp.{IsCatchingUp, proposed_upto}
+use Rattle.cluster.specs.CatchingUp.{IsCatchingUp}
 use Rattle.cluster.specs.Snapshots.{IsDecidedToAll, AreToldFrom}
 use Rattle.cluster.proofs.alone.Acting.{number_in}
 
@@ -63,32 +64,6 @@ module _ {X : Type 0} where
           ap (λ b. cond b (cond (eq_by_cmp nat_cmp q s) (Some v) (get m q)) None) low_q
           ∙ sym (ap (λ b. cond b (get m q) None) low_q)
       by_tests q false high e f = ap (λ b. cond (nat_le base q) (cond b (Some v) (get m q)) None) e
-
-  remove_kept : (m : Slots X) (s : ℕ) → remove (kept_from s m) s ≡ kept_from (s + 1) m
-  remove_kept m s = same_slots _ _ (λ q.
-      get-remove nat_cmp_total (kept_from s m) s q
-      ∙ ap (λ o. cond (eq_by_cmp nat_cmp q s) None o) (get_above s m q)
-      ∙ by_tests q (eq_by_cmp nat_cmp q s) (nat_le s q) (nat_le (s + 1) q) refl refl refl
-      ∙ sym (get_above (s + 1) m q))
-    where
-      not_above : (q : ℕ) → q ≡ s → nat_le (s + 1) q ≡ false
-      not_above q e = grind (arith, nat_tests)
-
-      is_above : (q : ℕ) → eq_by_cmp nat_cmp q s ≡ false → nat_le s q ≡ true → nat_le (s + 1) q ≡ true
-      is_above q e f = grind (arith, nat_tests)
-
-      also_low : (q : ℕ) → nat_le (s + 1) q ≡ true → nat_le s q ≡ true
-      also_low q g = grind (arith, nat_tests)
-
-      by_tests : (q : ℕ) (same low high : Bool) → eq_by_cmp nat_cmp q s ≡ same → nat_le s q ≡ low
-          → nat_le (s + 1) q ≡ high
-          → cond same None (cond low (get m q) None) ≡ cond high (get m q) None
-      by_tests q true low true e f g = absurd (true≢false (sym g ∙ not_above q (same_key s q e)))
-      by_tests q true low false e f g = refl
-      by_tests q false true true e f g = refl
-      by_tests q false false false e f g = refl
-      by_tests q false true false e f g = absurd (true≢false (sym (is_above q e f) ∙ g))
-      by_tests q false false true e f g = absurd (true≢false (sym (also_low q g) ∙ f))
 
   all_kept : (base : ℕ) (m : Slots X) → ((s : ℕ) (v : X) → get m s ≡ Some v → base ≤ s) → kept_from base m ≡ m
   all_kept base m high = same_slots _ _ (λ q. get_above base m q ∙ by_value q (get m q) refl)
@@ -239,18 +214,6 @@ module _ (laws : BallotLaws) {O Op Reply : Type 0} (rules : Rules O Op Reply) (n
     abbrev proposed_at : ℕ → List (Command Op)
     proposed_at s = option_to_list (get x₀.replica.proposals s)
 
-    proposed_more : proposed_upto slot x₀.replica ++ proposed_at slot ≡ proposed_upto (slot + 1) x₀.replica
-    proposed_more =
-        let low_slot = come.from_out in
-        let out = x₀.replica.slot_out in
-        let count : slot + 1 - out ≡ slot - out + 1 = omega (arith, low_slot) in
-        let last : out + (slot - out) ≡ slot = omega (arith, low_slot) in
-        sym (ap (λ l. flat_map proposed_at (range_with_len out l)) count
-        ∙ flat_two proposed_at out (slot - out) 1
-        ∙ ap (λ xs. flat_map proposed_at (range_with_len out (slot - out)) ++ xs)
-        (append-nil (proposed_at (out + (slot - out))))
-        ∙ ap (λ s. flat_map proposed_at (range_with_len out (slot - out)) ++ proposed_at s) last)
-
     requests_then : (x₀.replica.requests ++ proposed_upto slot x₀.replica)
         ++ lost (is_one rules) (get (kept_from slot x₀.replica.proposals) slot) (next_decided x₁.replica)
         ≡ x₀.replica.requests ++ proposed_upto (slot + 1) x₀.replica
@@ -262,7 +225,7 @@ module _ (laws : BallotLaws) {O Op Reply : Type 0} (rules : Rules O Op Reply) (n
         ∙ ap (λ xs. (x₀.replica.requests ++ proposed_upto slot x₀.replica) ++ xs)
         (lost_is (get x₀.replica.proposals slot) other)
         ∙ append_assoc x₀.replica.requests (proposed_upto slot x₀.replica) (proposed_at slot)
-        ∙ ap (λ xs. x₀.replica.requests ++ xs) proposed_more
+        ∙ ap (λ xs. x₀.replica.requests ++ xs) (proposed_more x₀.replica slot come.from_out)
 
     then_is : record x₁ { replica = advanced (is_one rules) x₁.replica } ≡ at_slot (slot + 1) d
     then_is =

@@ -36,7 +36,8 @@ use Rattle.agreement.proofs.chosen.Reach.{reachable_sound}
 use Rattle.agreement.proofs.chosen.Turns as turns
 use Rattle.agreement.proofs.every.Every.{goes_on}
 use Rattle.forgetting.proofs.Bases.{pvalues_twice, rest_keeps}
-use Rattle.cluster.specs.CatchingUp.{CatchesUp, HasProposedInVain, caught_up, proposed_upto}
+use Rattle.cluster.specs.CatchingUp.{CatchesUp, HasProposedInVain, caught_up}
+use Rattle.slot_log.specs.CatchingUp.{proposed_upto}
 use Rattle.cluster.specs.ComingBack.{ComesBack, restarted_host}
 use Rattle.cluster.specs.Hosts.{HostState, ShowsHost}
 use Rattle.cluster.specs.Storing.{Stored, IsStored}

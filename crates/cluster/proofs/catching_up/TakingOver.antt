@@ -30,7 +30,8 @@ use Rattle.agreement.specs.Worlds.{World}
 use Rattle.agreement.proofs.answered.Told.{answered_now}
 use Rattle.agreement.proofs.every.Every.{is_given}
 use Rattle.agreement.proofs.chosen.Growing.{happenings_go_on}
-use Rattle.cluster.specs.CatchingUp.{CatchesUp, proposed_upto}
+use Rattle.cluster.specs.CatchingUp.{CatchesUp}
+use Rattle.slot_log.specs.CatchingUp.{proposed_upto}
 use Rattle.cluster.specs.Snapshots.{AreToldFrom, IsSnapshot}
 use Rattle.cluster.proofs.catching_up.CatchingUp.{HasCome, has_come, comes_to, at_slot}
 use Rattle.cluster.proofs.catching_up.Histories.{history_told, told_from_adds}

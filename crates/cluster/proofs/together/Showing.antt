@@ -42,7 +42,7 @@ use Rattle.cluster.specs.ComingBack.{restarted_host}
 use Rattle.cluster.specs.Elsewhere.{IsElsewhere}
 use Rattle.cluster.specs.Hosts.{HostState, ShowsHost, host_turn, with_holding, with_node_state, forgotten_host}
 use Rattle.cluster.specs.Envelopes.{Envelope, IsEnvelopeOf, AreEnvelopesOf}
-use Rattle.cluster.specs.Storing.{Stored, IsStored, new_stored, stored_after, booted, compacted}
+use Rattle.cluster.specs.Storing.{Stored, IsStored, new_stored, stored_after, booted}
 use Rattle.cluster.specs.Snapshots.{IsSnapshot}
 use Rattle.cluster.specs.Clusters.{Hosts, new_hosts, with_at, events_from, total_events, labelled, host_turned}
 use Rattle.cluster.specs.Clusters.{host_acted}
@@ -345,7 +345,7 @@ module _ (laws : BallotLaws) {O Op Reply : Type 0} (filter : FilterLaws Op) (rul
   earlier_room k z (receives n p left new sent member within reads received) room =
       let more = count_more k.members k.taken n 1 member in omega (arith, room, more)
   earlier_room k z (forgets n base member more out) room = room
-  earlier_room k z (compacts n base member more below) room = room
+  earlier_room k z (compacts n base e member more below anew) room = room
   earlier_room k z (hands_on n member) room = room
   earlier_room k z (catches_up n slot object member within older none) room =
       let more = count_more k.members k.taken n (2 * (slot - (k.host n).holding.state.replica.slot_out)) member in
@@ -443,15 +443,16 @@ module _ (laws : BallotLaws) {O Op Reply : Type 0} (filter : FilterLaws Op) (rul
     happenings = show.happenings;
     taken = show.taken;
   })
-  step_shows k z w show (compacts n base member more below) room = still_shown k w show z (record {
+  step_shows k z w show (compacts n base e member more below anew) room = still_shown k w show z (record {
     is = show.is;
     members = show.members;
     hosts = show.hosts;
-    stored = each_host k.stored n (compacted base (k.stored n))
+    stored = each_host k.stored n e
         (λ m d. is_member k.members m ≡ true → IsStored d m w.cluster)
-        (λ _. stored_compacts (k.stored n) n base w.cluster (show.stored n member) more)
+        (λ _. stored_compacts laws (k.stored n) e n base w.cluster (show.stored n member) more anew)
         (λ m apart other. show.stored m other);
-    low = each_host k.stored n (compacted base (k.stored n)) (λ m d. d.base ≤ (k.host m).base) below
+    low = each_host k.stored n e (λ m d. d.base ≤ (k.host m).base)
+        (let low = show.low n in let is = anew.base in omega (arith, below, low, is))
         (λ m apart. show.low m);
     handed = show.handed;
     submitted = show.submitted;

@@ -1,47 +1,37 @@
-//! Courses of one, three and five hosts, as seeds draw them: letters are lost, come again and come in any order,
-//! records are kept late, and slots are forgotten. All that is seen comes of one order.
+//! Courses of one to seven hosts, as seeds draw them: letters are lost, come again and come in any order, processes end
+//! with what isn't synced, hosts are away or cut off, disks begin anew, and snapshots are handed on. All that is seen
+//! comes of one order.
 use crate::course::Course;
 use crate::draws::Draws;
+use crate::kinds::Counts;
 use std::alloc::Global;
 use std::test::Fail;
 
 /// The seeds are those below this one.
-const SEEDS: u64 = 50;
+const SEEDS: u64 = 300;
 
-/// So many steps are drawn from a seed.
-const STEPS: u32 = 1_000;
+/// So many events are drawn from a seed.
+const EVENTS: u32 = 2_000;
 
-/// The courses of so many hosts.
-fn run_all(alloc: Global, hosts: u8) -> Result<(), Fail> {
-    for seed in 0..SEEDS {
-        run(alloc, hosts, seed)?;
-    }
-    Ok(())
-}
-
-/// One course, after which a last command is answered.
-fn run(alloc: Global, hosts: u8, seed: u64) -> Result<(), Fail> {
+/// One course, after which all hosts come to the same slot.
+fn run(alloc: Global, seed: u64) -> Result<Counts, Fail> {
     let mut draws = Draws::new(seed);
-    let mut course = Course::new(alloc, hosts, seed)?;
-    for _ in 0..STEPS {
+    let hosts = (seed % 7) as u8 + 1;
+    let mut course = Course::new(alloc, hosts, seed, &mut draws)?;
+    for _ in 0..EVENTS {
         course.step(&mut draws)?;
     }
     course.check()?;
-    course.settle()?;
-    course.check()
+    course.settle(&mut draws)?;
+    course.check()?;
+    Ok(course.counts)
 }
 
 #[test]
-fn one_host(rt: HostRuntime) -> Result<(), Fail> {
-    run_all(rt.alloc(), 1)
-}
-
-#[test]
-fn three_hosts(rt: HostRuntime) -> Result<(), Fail> {
-    run_all(rt.alloc(), 3)
-}
-
-#[test]
-fn five_hosts(rt: HostRuntime) -> Result<(), Fail> {
-    run_all(rt.alloc(), 5)
+fn drawn_courses(rt: HostRuntime) -> Result<(), Fail> {
+    let mut counts = Counts::new();
+    for seed in 0..SEEDS {
+        counts.add(&run(rt.alloc(), seed)?);
+    }
+    counts.tell(&rt)
 }

@@ -29,4 +29,14 @@ impl Draws {
     pub fn place(&mut self, len: usize) -> usize {
         self.words.next_u32() as usize % len.max(1)
     }
+
+    /// A number from the first to the last of these.
+    pub fn between(&mut self, first: u64, last: u64) -> u64 {
+        first + u64::from(self.words.next_u32()) % (last.saturating_sub(first) + 1)
+    }
+
+    /// Whether one lot of so many is drawn.
+    pub fn one_in(&mut self, n: u32) -> bool {
+        self.below(n) == 0
+    }
 }

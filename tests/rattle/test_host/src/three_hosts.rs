@@ -31,8 +31,9 @@ impl Three {
         let mut hosts = Vec::new(alloc);
         let mut accounts = Vec::new(alloc);
         for number in 1..4 {
-            hosts.push(Host::new(alloc, members, number)?)?;
-            accounts.push(Account::new())?;
+            let (host, account) = Host::new(alloc, members, number)?;
+            hosts.push(host)?;
+            accounts.push(account)?;
         }
         Ok(Three {
             alloc,
@@ -93,11 +94,11 @@ impl Three {
         for _ in 0..20 {
             let written = self.accounts[place].written();
             if self.hosts[place].record(written).is_some() {
-                self.accounts[place].write();
+                self.accounts[place].write().ok_or("records are uncounted")?;
             }
         }
         let written = self.accounts[place].written();
-        let kept = self.accounts[place].keep(written);
+        let kept = self.accounts[place].keep(written).ok_or("nothing is kept")?;
         let mut sent = self.hosts[place].outbox(self.alloc);
         self.hosts[place].vote(kept, &mut sent)?;
         self.send(sent)
@@ -136,7 +137,7 @@ fn three_hosts_decide(rt: HostRuntime) -> Result<(), Fail> {
         three.counts
     );
     for host in &three.hosts {
-        assert!(rt; host.slot_out() == 2 && host.voted() == 2);
+        assert!(rt; host.slot_out() == 2 && host.voted() == 2 && host.leader() == Some(1));
     }
     Ok(())
 }

@@ -71,4 +71,5 @@ returns-clause-stored g c = λ d m w v e is step apart stored. leaves_stored g.O
     (step_leaves g.O.Object.rules m w v e step apart) stored
 
 pub returns-clause-compacts : goal.returns-clause-compacts
-returns-clause-compacts g c = λ d n base w stored more. stored_compacts d n base w.cluster stored more
+returns-clause-compacts g c = λ d e n base w stored more anew.
+    stored_compacts c.ballot_laws.ensures d e n base w.cluster stored more anew

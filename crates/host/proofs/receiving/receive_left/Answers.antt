@@ -1,27 +1,43 @@
-use Rattle.std.proofs.Common.{refl, sym, ap, ◌∙◌}
-use Rattle.std.proofs.lemmas.Result.{IfOk-weaker}
-use Rattle.host.specs.Left.{what_is_left}
-use Rattle.host.proofs.Received.{read_left}
+use Rattle.std.proofs.Common.{◌≡◌, Some, sym, ap, ◌∙◌, subst}
+use Rattle.std.proofs.lemmas.Result.{on_ok_weaker}
+use Rattle.ballot.specs.Left.{what_is_left}
+use Rattle.ballot.specs.Rests.{rest_of_body}
+use Rattle.ballot.specs.declared.letter.Letter.{Letter}
+use Rattle.node.specs.Receiving.{SaysNothingNew}
+use Rattle.host.specs.Receiving.{TakesBody}
+use Rattle.std.proofs.Common.{false, is_none}
+use Rattle.host.proofs.Received.{takes_left, whole_left}
 use Rattle.host.proofs.receiving.receive_left.Goals as goal
-
-pub returns-in-All-clause-ok : goal.returns-in-All-clause-ok
-returns-in-All-clause-ok g c =
-    let letter = c.letter-letter.result.now in
-    let is = ap (what_is_left letter.body) (sym c.in-All.is) in
-    IfOk-weaker c.receive_fit.result _ _
-    (λ r k. read_left c.args.base c.args.node.now c.receive_fit.new.node c.args.envelope.now
-    c.args.sent.now.items c.receive_fit.new.sent.items
-    letter c.label.result c.letter-letter.ensures c.label.ensures (c.if-not-is_legible.ensures.yes refl)
-    letter.body (sym (is ∙ c.in_ok-left_of.ensures.left)) r k)
-    c.receive_fit.ensures.ok
 
 pub returns-in-Part-clause-ok : goal.returns-in-Part-clause-ok
 returns-in-Part-clause-ok g c =
     let letter = c.letter-letter.result.now in
-    let is = ap (what_is_left letter.body) (sym c.in-Part.is) in
-    IfOk-weaker c.receive_fit-in-Part.result _ _
-    (λ r k. read_left c.args.base c.args.node.now c.receive_fit-in-Part.new.node c.args.envelope.now
-    c.args.sent.now.items c.receive_fit-in-Part.new.sent.items
-    letter c.label.result c.letter-letter.ensures c.label.ensures (c.if-not-is_legible.ensures.yes refl)
-    c.in-Part.part (sym (is ∙ c.in_ok-left_of.ensures.left)) r k)
-    c.receive_fit-in-Part.ensures.ok
+    on_ok_weaker c.receive_body.result
+    (λ k. takes_left c.args.base c.args.number c.args.node.now c.receive_body.new.node c.args.envelope.now
+    c.in-Part.part c.args.sent.now.items c.receive_body.new.sent.items c.requires.to c.requires.may
+    (subst (λ (l : Letter _). rest_of_body c.args.base l.body ≡ Some c.in-Part.part) c.letter-letter.ensures
+    (sym (ap (what_is_left letter.body) (sym c.in-Part.is) ∙ c.in_ok-part.ensures.left)))
+    (subst (λ (l : Letter _). TakesBody l.«from» c.args.node.now c.in-Part.part c.receive_body.new.node
+    c.args.sent.now.items c.receive_body.new.sent.items) c.letter-letter.ensures k))
+    c.receive_body.ensures.ok
+
+pub returns-in_default : goal.returns-in_default
+returns-in_default g c =
+    let letter = c.letter-letter.result.now in
+    record {
+      ok = on_ok_weaker c.receive_body-in_default.result
+          (λ k. takes_left c.args.base c.args.number c.args.node.now c.receive_body-in_default.new.node
+          c.args.envelope.now c.args.envelope.now.letter.body c.args.sent.now.items
+          c.receive_body-in_default.new.sent.items c.requires.to c.requires.may
+          (subst (λ (l : Letter _). rest_of_body c.args.base l.body ≡ Some l.body) c.letter-letter.ensures
+          (whole_left c.in_ok-part.field-0 letter.body (rest_of_body c.args.base letter.body) c.in_default.not-Part
+          c.in_ok-part.ensures.left
+          (subst (λ (l : Letter _). is_none (rest_of_body c.args.base l.body) ≡ false) (sym c.letter-letter.ensures)
+          c.requires.may.some)))
+          (subst (λ (l : Letter _). TakesBody l.«from» c.args.node.now l.body c.receive_body-in_default.new.node
+          c.args.sent.now.items c.receive_body-in_default.new.sent.items) c.letter-letter.ensures k))
+          c.receive_body-in_default.ensures.ok;
+      again = λ whole new. c.receive_body-in_default.ensures.again
+          (subst (λ (l : Letter _). SaysNothingNew c.args.node.now.state l.body) (sym c.letter-letter.ensures) new);
+      err = c.receive_body-in_default.ensures.err;
+    }

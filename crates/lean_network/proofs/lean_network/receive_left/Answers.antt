@@ -1,7 +1,7 @@
 use Rattle.std.proofs.Common.{sym, ap, ◌∙◌, subst}
 use Rattle.std.proofs.lemmas.Option.{same_Some}
 use Rattle.node.specs.Receiving.{ShowsReceived}
-use Rattle.lean_network.specs.Left.{what_is_left}
+use Rattle.ballot.specs.Left.{what_is_left}
 use Rattle.lean_network.proofs.lean_network.receive_left.Goals as goal
 
 pub returns-in_ok-receive-in-All-clause-received :

@@ -1,4 +1,4 @@
-use Rattle.std.proofs.Common.{◌≡◌, ◌∙◌, sym, ap, Result, Ok, Err, OnOk, OnErr}
+use Rattle.std.proofs.Common.{◌∙◌, sym, ap, Result, Ok, Err, OnOk, OnErr}
 use Rattle.std.proofs.lemmas.Result.{IfOk-weaker}
 use Rattle.bean_queue.specs.Tubes.{all_tubes}
 use Rattle.bean_queue.proofs.tubes.Listed.{called-tubes, listing-state, listing-reply}

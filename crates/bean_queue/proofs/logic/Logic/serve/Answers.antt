@@ -1,6 +1,7 @@
 use Rattle.std.proofs.Common.{◌∙◌}
 use Rattle.bean_queue.specs.Turns.{serve_turn}
 use Rattle.bean_queue.proofs.best.Served.{serves, turn_made, no_turn}
+use Rattle.bean_queue.proofs.best.Turned.{still-begun}
 use Rattle.bean_queue.proofs.logic.Logic.serve.Goals as goal
 
 pub turns-smaller : goal.turns-smaller
@@ -15,10 +16,11 @@ turns-preserved g c =
       state = r.state ∙ c.turns.invariant.state;
       answers = r.answers ∙ c.turns.invariant.answers;
       before = c.serve_one.ensures.turn.before ∙ c.turns.invariant.before;
+      begun = still-begun serve_turn c.args.self.now.now _ _ _ _ c.in_ok-serve_one.field-0 c.if-branch.true c.in_ok-serve_one.ensures.turn.turn c.turns.invariant.begun;
     }
 
-pub returns : goal.returns
-returns g c = record {
+pub returns-clause-turns : goal.returns-clause-turns
+returns-clause-turns g c = record {
   state = (no_turn serve_turn serves _ _ _ _ c.in_ok-serve_one.field-0 c.if-branch.false c.in_ok-serve_one.ensures.turn.turn).state ∙ c.turns.invariant.state;
   answers = (no_turn serve_turn serves _ _ _ _ c.in_ok-serve_one.field-0 c.if-branch.false c.in_ok-serve_one.ensures.turn.turn).answers ∙ c.turns.invariant.answers;
   before = c.serve_one.ensures.turn.before ∙ c.turns.invariant.before;

@@ -1,4 +1,4 @@
-use Rattle.std.proofs.Common.{◌≡◌, ◌++◌}
+use Rattle.std.proofs.Common.{◌≡◌, ◌++◌, None}
 use Rattle.session_store.specs.Fronts.{AreFronts}
 use Rattle.bean_queue.specs.Turns.{serve_turn, all_turns}
 use Rattle.bean_queue.specs.Offers.{OffersJobsOf}
@@ -12,6 +12,7 @@ invariant-turns g l = record {
   state : (all_turns serve_turn l.self.now).state ≡ (all_turns serve_turn l.fn.self.now).state;
   answers : l.answers.items ++ (all_turns serve_turn l.self.now).answers ≡ l.fn.answers.items ++ (all_turns serve_turn l.fn.self.now).answers;
   before : l.self.before ≡ l.fn.self.before;
+  begun : serve_turn l.fn.self.now ≡ None → l.self.now ≡ l.fn.self.now;
 }
 
 abbrev pub decreases-turns : goal.decreases-turns

@@ -1,4 +1,4 @@
-use Rattle.std.proofs.Common.{◌≡◌, ◌∙◌, ℕ, ◌+◌, ◌^◌, true, ◌∷◌, [], ◌++◌, Some, None, rules, refl, sym, ap, ap₂, subst}
+use Rattle.std.proofs.Common.{◌≡◌, ◌∙◌, ℕ, ◌+◌, ◌^◌, true, ◌∷◌, [], ◌++◌, Some, None, IsSome, rules, refl, sym, ap, ap₂, subst}
 use Rattle.job_store.specs.declared.job.Job.{Job}
 use Rattle.job_store.specs.Entries.{Rising, altered}
 use Rattle.job_store.specs.States.{reserved_job}
@@ -10,11 +10,12 @@ use Rattle.session_store.specs.Fronts.{AreFronts}
 use Rattle.session_store.proofs.Served.{fronts-ended}
 use Rattle.bean_words.specs.declared.reply.Reply.{Reply}
 use Rattle.job_store.specs.LookUps.{is_among}
+use Rattle.object.proofs.KeyMaps.{on_err}
 use Rattle.bean_queue.specs.Queue.{QueueState, state_of}
 use Rattle.bean_queue.specs.Turns.{IsTurn, next_job, serve_turn}
 use Rattle.bean_queue.specs.Offers.{OffersJobsOf}
 use Rattle.bean_queue.proofs.best.Offering.{served-offers}
-use Rattle.bean_queue.proofs.best.Turned.{none-served, nobody-served, served}
+use Rattle.bean_queue.proofs.best.Turned.{none-served, nobody-served, some-served, served}
 use Rattle.bean_queue.proofs.logic.Logic.serve_one.Goals as goal
 
 pub returns-in_default-clause-turn : goal.returns-in_default-clause-turn
@@ -73,3 +74,38 @@ returns-clause-offers g c =
     (subst (λ (d : Draft QueueState). OffersJobsOf c.next_job.new.offers d.now) (sym c.self.view_is) c.next_job.ensures.offers)
     (ap (λ (d : Draft QueueState). next_job d.now) c.self.view_is ∙ sym c.in-Some.ensures.best)
     c.in_ok-set_state.ensures.now c.in_ok-set_wait.ensures.now c.map.ensures.jobs c.in_ok-replace.ensures
+
+pub returns-in_err-body-clause-err : goal.returns-in_err-body-clause-err
+returns-in_err-body-clause-err g c =
+    let s = state_of c.self.inside.counters c.self.inside.jobs.now c.self.inside.sessions.now c.self.inside.pauses.now.pauses c.self.inside.tubes.now in
+    let next = ap (λ (d : Draft QueueState). next_job d.now) c.self.view_is ∙ sym c.in-Some.ensures.best in
+    on_err c.from_residual.result (subst (λ (d : Draft QueueState). IsSome (serve_turn d.now)) c.self.view_is
+    (some-served s (c.in-Some.id, c.in-Some.job.now) _ next (sym c.in-Some-next_watcher.ensures.first)))
+
+pub returns-in_err-push-clause-err : goal.returns-in_err-push-clause-err
+returns-in_err-push-clause-err g c =
+    let s = state_of c.self.inside.counters c.self.inside.jobs.now c.self.inside.sessions.now c.self.inside.pauses.now.pauses c.self.inside.tubes.now in
+    let next = ap (λ (d : Draft QueueState). next_job d.now) c.self.view_is ∙ sym c.in-Some.ensures.best in
+    on_err c.from_residual-in_err-push.result (subst (λ (d : Draft QueueState). IsSome (serve_turn d.now)) c.self.view_is
+    (some-served s (c.in-Some.id, c.in-Some.job.now) _ next (sym c.in-Some-next_watcher.ensures.first)))
+
+pub returns-in_err-set_state-clause-err : goal.returns-in_err-set_state-clause-err
+returns-in_err-set_state-clause-err g c =
+    let s = state_of c.self.inside.counters c.self.inside.jobs.now c.self.inside.sessions.now c.self.inside.pauses.now.pauses c.self.inside.tubes.now in
+    let next = ap (λ (d : Draft QueueState). next_job d.now) c.self.view_is ∙ sym c.in-Some.ensures.best in
+    on_err c.from_residual-in_err-set_state.result (subst (λ (d : Draft QueueState). IsSome (serve_turn d.now)) c.self.view_is
+    (some-served s (c.in-Some.id, c.in-Some.job.now) _ next (sym c.in-Some-next_watcher.ensures.first)))
+
+pub returns-in_err-set_wait-clause-err : goal.returns-in_err-set_wait-clause-err
+returns-in_err-set_wait-clause-err g c =
+    let s = state_of c.self.inside.counters c.self.inside.jobs.now c.self.inside.sessions.now c.self.inside.pauses.now.pauses c.self.inside.tubes.now in
+    let next = ap (λ (d : Draft QueueState). next_job d.now) c.self.view_is ∙ sym c.in-Some.ensures.best in
+    on_err c.from_residual-in_err-set_wait.result (subst (λ (d : Draft QueueState). IsSome (serve_turn d.now)) c.self.view_is
+    (some-served s (c.in-Some.id, c.in-Some.job.now) _ next (sym c.in-Some-next_watcher.ensures.first)))
+
+pub returns-in_err-replace-clause-err : goal.returns-in_err-replace-clause-err
+returns-in_err-replace-clause-err g c =
+    let s = state_of c.self.inside.counters c.self.inside.jobs.now c.self.inside.sessions.now c.self.inside.pauses.now.pauses c.self.inside.tubes.now in
+    let next = ap (λ (d : Draft QueueState). next_job d.now) c.self.view_is ∙ sym c.in-Some.ensures.best in
+    on_err c.from_residual-in_err-replace.result (subst (λ (d : Draft QueueState). IsSome (serve_turn d.now)) c.self.view_is
+    (some-served s (c.in-Some.id, c.in-Some.job.now) _ next (sym c.in-Some-next_watcher.ensures.first)))

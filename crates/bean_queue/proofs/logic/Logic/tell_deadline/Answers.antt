@@ -1,4 +1,4 @@
-use Rattle.std.proofs.Common.{◌≡◌, ◌∙◌, ℕ, ◌+◌, ◌^◌, true, ◌∷◌, [], ◌++◌, Some, None, rules, refl, sym, ap, ap₂, subst, List}
+use Rattle.std.proofs.Common.{◌≡◌, ◌∙◌, ℕ, ◌+◌, ◌^◌, true, ◌∷◌, [], ◌++◌, Some, None, is_some, IsSome, rules, refl, sym, ap, ap₂, subst, List}
 use Rattle.object.specs.declared.command.Answer.{Answer}
 use Rattle.job_store.specs.Entries.{Rising}
 use Rattle.session_store.specs.declared.session.SessionState.{SessionState}
@@ -6,9 +6,10 @@ use Rattle.session_store.specs.Sessions.{first_waiting, with_wait_ended}
 use Rattle.session_store.specs.Drafts.{Draft}
 use Rattle.bean_words.specs.declared.reply.Reply.{Reply}
 use Rattle.bean_queue.specs.HolderLines.{HasAllHolders}
+use Rattle.object.proofs.KeyMaps.{on_err}
 use Rattle.bean_queue.specs.Queue.{QueueState, holds_by, state_of}
 use Rattle.bean_queue.specs.Turns.{IsTurn, deadline_turn}
-use Rattle.bean_queue.proofs.best.Turned.{none-told_deadline, told_deadline}
+use Rattle.bean_queue.proofs.best.Turned.{none-told_deadline, some-told_deadline, told_deadline}
 use Rattle.bean_queue.proofs.logic.Logic.tell_deadline.Goals as goal
 
 pub next-requires-clause-rising : goal.next-requires-clause-rising
@@ -58,3 +59,21 @@ returns-clause-left g c more =
     subst (HasAllHolders c.next.new.self (s.now + 1) s.jobs) (sym c.in_ok-set_wait.ensures.now)
     (subst (λ sessions. HasAllHolders c.next.new.self (s.now + 1) s.jobs (ended sessions)) c.map-2.ensures.sessions
     (subst (λ jobs. HasAllHolders c.next.new.self (s.now + 1) jobs (ended c.map-2.result.now.entries)) c.map.ensures.jobs c.in-Some.ensures.left))
+
+pub returns-in_err-push-clause-err : goal.returns-in_err-push-clause-err
+returns-in_err-push-clause-err g c =
+    let s = state_of c.self.inside.counters c.self.inside.jobs.now c.self.inside.sessions.now c.self.inside.pauses.now.pauses c.self.inside.tubes.now in
+    let w : ℕ × SessionState = (c.in-Some.session, c.in-Some.holder.now) in
+    let first : first_waiting (λ e. holds_by e.0 (s.now + 1) s.jobs) s.sessions ≡ Some w =
+    ap₂ (λ jobs. first_waiting (λ e. holds_by e.0 (s.now + 1) jobs)) (sym c.map.ensures.jobs) (sym c.map-2.ensures.sessions) ∙
+    sym c.in-Some.ensures.first in
+    on_err c.from_residual.result (subst (λ (d : Draft QueueState). IsSome (deadline_turn d.now)) c.self.view_is (some-told_deadline s (ap is_some first)))
+
+pub returns-in_err-set_wait-clause-err : goal.returns-in_err-set_wait-clause-err
+returns-in_err-set_wait-clause-err g c =
+    let s = state_of c.self.inside.counters c.self.inside.jobs.now c.self.inside.sessions.now c.self.inside.pauses.now.pauses c.self.inside.tubes.now in
+    let w : ℕ × SessionState = (c.in-Some.session, c.in-Some.holder.now) in
+    let first : first_waiting (λ e. holds_by e.0 (s.now + 1) s.jobs) s.sessions ≡ Some w =
+    ap₂ (λ jobs. first_waiting (λ e. holds_by e.0 (s.now + 1) jobs)) (sym c.map.ensures.jobs) (sym c.map-2.ensures.sessions) ∙
+    sym c.in-Some.ensures.first in
+    on_err c.from_residual-in_err-set_wait.result (subst (λ (d : Draft QueueState). IsSome (deadline_turn d.now)) c.self.view_is (some-told_deadline s (ap is_some first)))

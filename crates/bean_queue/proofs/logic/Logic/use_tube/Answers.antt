@@ -16,7 +16,7 @@ returns g c =
     ap (λ name. with_session s x (λ t. record t { used = name })) c.in_ok-copy.ensures ∙
     ap (λ (d : Draft QueueState). with_session d.now x (λ t. record t { used = c.args.tube.now })) c.self.view_is in
     record {
-      state = c.settle.ensures ∙ ap₂ (λ name t. settled (name ∷ []) t) left moved;
+      state = c.settle.ensures.counts ∙ ap₂ (λ name t. settled (name ∷ []) t) left moved;
       reply = search rules;
       err = search rules;
     }

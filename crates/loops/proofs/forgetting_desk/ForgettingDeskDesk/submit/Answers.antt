@@ -6,5 +6,6 @@ pub returns-then-last_number-last-clause-submitted : goal.returns-then-last_numb
 returns-then-last_number-last-clause-submitted g c = record {
   ok = tt;
   err = refl;
+  free = refl;
   leads = leads_stay g.O.Object.rules c.args.self.now.hall c.args.self.now.hall refl;
 }

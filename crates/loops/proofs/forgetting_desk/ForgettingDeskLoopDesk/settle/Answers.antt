@@ -1,4 +1,4 @@
-use Rattle.std.proofs.Common.{sym, subst}
+use Rattle.std.proofs.Common.{subst}
 use Rattle.forgetting_hall.specs.LeadingLaws.{leads_trans}
 use Rattle.forgetting_hall.specs.Leading.{LeadsOn}
 use Rattle.loops.proofs.Keeping.{seen_goes}

@@ -1,4 +1,4 @@
-use Rattle.std.proofs.Common.{◌≡◌, ◌+◌, length, if◌then◌else◌, sym, ap, subst, ◌∙◌}
+use Rattle.std.proofs.Common.{◌≡◌, ◌+◌, length, if◌then◌else◌, ap, subst, ◌∙◌}
 use Rattle.forgetting_hall.specs.Halls.{ForgettingState, rest_of_hall}
 use Rattle.forgetting_hall.specs.LeadingLaws.{leads_same}
 use Rattle.event_loops.specs.Courses.{AllLead}

@@ -1,4 +1,3 @@
-use Rattle.hall.specs.Refusals.{resubmit_refusal}
 use Rattle.loops.specs.LeadingLaws.{hall_goes}
 use Rattle.loops.proofs.hall_desk.HallDeskLoopDesk.hand_in_again.Goals as goal
 

@@ -1,4 +1,4 @@
-use Rattle.std.proofs.Common.{◌≡◌, ◌≤◌, ◌+◌, true, length, if◌then◌else◌, sym, subst}
+use Rattle.std.proofs.Common.{◌≤◌, ◌+◌, length, if◌then◌else◌, sym, subst}
 use Rattle.recorder.specs.Records.{commands_from}
 use Rattle.loops.specs.Taking.{for_log}
 use Rattle.loops.proofs.Keeping.{fewer_placed}

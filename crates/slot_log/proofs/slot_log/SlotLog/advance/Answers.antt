@@ -1,8 +1,7 @@
-use Rattle.std.proofs.Common.{◌≡◌, Result, Ok, cond, ◌≤◌, ◌<◌, ◌+◌, ◌^◌, ℕ, List, [], ◌∷◌, ◌++◌, length, Option, Some, None, ap, subst, sym, ◌∙◌, arith}
-use Rattle.std.specs.Result.{is_ok}
+use Rattle.std.proofs.Common.{◌≡◌, ◌≤◌, ◌<◌, ◌+◌, ◌^◌, length, Some, None, ap, subst, sym, ◌∙◌, arith}
 use Rattle.std.specs.VecDeque.{deque_len, deque_capacity}
 use Rattle.std.specs.FinMap.{get, remove}
-use Rattle.std.specs.Option.{SomeIff, is_some, option_copied}
+use Rattle.std.specs.Option.{is_some, option_copied}
 use Rattle.ballot.specs.Slots.{Slots}
 use Rattle.slot_log.specs.Books.{SlotBook}
 use Rattle.slot_log.specs.Decisions.{next_decided}
@@ -10,18 +9,8 @@ use Rattle.object.specs.KeyMaps.{at_key, with_key}
 use Rattle.slot_log.specs.declared.places.Place.TheVariants.{Decided}
 use Rattle.slot_log.specs.Kept.{KeepsBook}
 use Rattle.slot_log.proofs.Maps.{len_removed}
-use Rattle.slot_log.proofs.Advancing.{none_kept, proposal_placed, won_kept, lost_kept}
+use Rattle.slot_log.proofs.Advancing.{value_when, pushed, longer, once_decided, none_kept, proposal_placed, won_kept, lost_kept}
 use Rattle.slot_log.proofs.slot_log.SlotLog.advance.Goals as goal
-
-value_when : {X : Type 0} (P : Type 0) (o : Option X) (v x : X) → SomeIff o P v → o ≡ Some x → x ≡ v
-value_when P o v x iff is = (subst (λ o. SomeIff o P v) is iff).1
-
--- what a push within the room leaves
-pushed : {C T E : Type 0} (now old : List C) (x : C) (r : Result T E) (t : T) → now ≡ cond (is_ok r) (old ++ x ∷ []) old → r ≡ Ok t → now ≡ old ++ x ∷ []
-pushed now old x r t is ok = is ∙ ap (λ r. cond (is_ok r) (old ++ x ∷ []) old) ok
-
-longer : {T E : Type 0} (now old : ℕ) (r : Result T E) (t : T) → now ≡ cond (is_ok r) (old + 1) old → r ≡ Ok t → now ≡ old + 1
-longer now old r t is ok = is ∙ ap (λ r. cond (is_ok r) (old + 1) old) ok
 
 pub invariant_of-self : goal.invariant_of-self
 invariant_of-self g c =
@@ -32,7 +21,8 @@ invariant_of-self g c =
     subst (λ (ps : Slots g.row.C.Denot). KeepsBook g.C.PartialEq.eq g.C.Keyed.key_of
     (record a { slot_out = a.slot_out + 1; proposals = ps }))
     (sym (c.remove.ensures.rest ∙ ap (remove a.proposals) own))
-    (none_kept g.C.PartialEq.eq g.C.Keyed.key_of g.met.C.Value.exact g.met.C.Eq.laws.refl a c.self.invariant none there)
+    (none_kept g.C.PartialEq.eq g.C.Keyed.key_of g.met.C.Value.exact g.met.C.Eq.laws.refl a c.self.invariant none
+    (once_decided g.C.PartialEq.eq g.C.Keyed.key_of g.met.C.Value.exact g.met.C.Eq.laws.refl a c.self.invariant there))
 
 pub relocate-requires : goal.relocate-requires
 relocate-requires g c =
@@ -104,5 +94,5 @@ invariant_of-self-else-eq g c =
           c.relocate-else-eq.new.self;
     })) (sym (c.remove.ensures.rest ∙ ap (remove a.proposals) own))
     (lost_kept g.C.PartialEq.eq g.C.Keyed.key_of g.met.C.Value.exact g.met.C.Eq.laws.refl a c.self.invariant x there
-    decided c.push_back.new.self items rank last c.relocate-else-eq.new.self
+    (once_decided g.C.PartialEq.eq g.C.Keyed.key_of g.met.C.Value.exact g.met.C.Eq.laws.refl a c.self.invariant decided) c.push_back.new.self items rank last c.relocate-else-eq.new.self
     c.relocate-else-eq.ensures.here c.relocate-else-eq.ensures.other c.relocate-else-eq.ensures.others (omega arith))

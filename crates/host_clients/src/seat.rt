@@ -1,0 +1,55 @@
+ghost use Rattle.std.specs.Prelude.{◌≡◌, true, false, ◌↔◌};
+ghost use Rattle.object.specs.declared.command.Act.TheVariants.{Close};
+ghost use Rattle.host_clients.specs.Clients.{IsLastOfSeat, IsEndOf, heard};
+
+use object::{Act, Answer, Command, Key};
+
+/// What is kept of a session: the number of its last command, and, while it is open, that command and the reply to it,
+/// where these are there.
+#[derive(Drop)]
+pub struct Seat<Op, Reply> {
+    pub number: u64,
+    pub last: Option<Command<Op>>,
+    pub reply: Option<Reply>,
+}
+
+impl<Op, Reply> Seat<Op, Reply> {
+    /// Whether the last command has this key, and is the session's end.
+    pub(crate) fn ends_with(&self, key: Key) -> bool
+        ensures yes { result ≡ true → IsEndOf self.now key }
+        ensures no { result ≡ false → IsEndOf self.now key → ⊥ }
+    {
+        match &self.last {
+            None => false,
+            Some(last) => last.key() == key && is_end(last.act()),
+        }
+    }
+
+    /// Whether the key is that of the last command.
+    pub(crate) fn is_last(&self, key: Key) -> bool
+        ensures { (result ≡ true) ↔ IsLastOfSeat self.now key }
+    {
+        match &self.last {
+            None => false,
+            Some(last) => last.key() == key,
+        }
+    }
+}
+
+impl<Op: Drop, Reply: Drop> Seat<Op, Reply> {
+    /// Takes the answer for its reply, where it is one to its last command, unless it has a reply.
+    pub(crate) fn hear(&mut self, answer: Answer<Reply>)
+        ensures { self.new ≡ heard answer self.old }
+    {
+        if self.reply.is_none() && self.is_last(answer.to) {
+            self.reply = Some(answer.reply);
+        }
+    }
+}
+
+// Whether it ends a session.
+fn is_end<Op>(act: &Act<Op>) -> bool
+    ensures { (result ≡ true) ↔ (act.now ≡ Close) }
+{
+    matches!(act, Act::Close)
+}
