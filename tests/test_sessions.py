@@ -126,6 +126,7 @@ class Successors(Case):
             self.assertEqual(sorted(held), jobs)
             for client in clients:
                 client.close()
+        wait_until(lambda: staying.stats()["current-jobs-ready"] == str(len(jobs)), "nobody holds a job")
         last = self.client(self.server)
         self.assertEqual([last.reserve().id for _ in jobs], jobs)
         self.assertEqual(last.list_tubes_watched(), ["default"])

@@ -40,7 +40,8 @@ impl Ballot {
 
     /// Its round.
     pub fn round(&self) -> u64
-        ensures { result ≡ self.now.round }
+        ensures round { result ≡ self.now.round }
+        ensures allowed { IsBallot self.now }
     {
         self.round
     }

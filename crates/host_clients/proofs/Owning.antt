@@ -14,9 +14,9 @@ use Rattle.object.specs.declared.command.Key.{Key}
 use Rattle.cluster.specs.Clusters.{Hosts, with_handed}
 use Rattle.cluster.proofs.alone.Acting.{same_number}
 use Rattle.cluster.proofs.together.HandingIn.{handed_still}
-use Rattle.host_clients.specs.Clients.{ClientsState, OpensAs, again, next, HandsInNext, HearsAnswer, there, nowhere, Frees}
-use Rattle.host_clients.specs.Clients.{no_clients, seat_session, opened_seat, heard, first_of, reply_if}
-use Rattle.host_clients.specs.Owning.{AreClientsOf}
+use Rattle.host_clients.specs.Clients.{ClientsState, OpensAs, again, next, HandsInNext, EndsEarlier, HearsAnswer, there, nowhere, Frees}
+use Rattle.host_clients.specs.Clients.{no_clients, last_number, seat_session, opened_seat, heard, first_of, reply_if}
+use Rattle.host_clients.specs.Owning.{AreClientsOf, HasOnlyEndsLast}
 use Rattle.host_clients.specs.declared.seat.Seat.{Seat}
 use Rattle.host_clients.proofs.Places.{set_cases, more_cases, set_length}
 
@@ -37,6 +37,10 @@ handed_last handed n c = subst (In c)
     (sym (ap (λ b. cond b (handed n ++ (c ∷ [])) (handed n)) (same_number n n refl)))
     (Rattle.object.specs.ListLaws.In-right c (handed n) (c ∷ []) (inl refl))
 
+-- a command is told by its key and what it asks for
+same_command : {Op : Type 0} (c d : Command Op) → c.key ≡ d.key → c.act ≡ d.act → c ≡ d
+same_command c d key act = λ i. record { key = key i; act = act i }
+
 -- a session that was only opened has no last command, and one that handed one in has no reply
 no_last : {Op Reply : Type 0} {X : Type 0} (c : Command Op) (seat : Seat Op Reply) (number : ℕ) → seat ≡ opened_seat number
     → seat.last ≡ Some c → X
@@ -51,13 +55,14 @@ no_reply {Op} {Reply} c seat reply e is =
 module _ {Op O Reply : Type 0} (owner : ℕ → ℕ) (n : ℕ) (k : Hosts Op O Reply) where
   pub beginning : (first : ℕ) → ((place : ℕ) → owner (seat_session first place) ≡ n)
       → ((c : Command Op) (place : ℕ) → In c (k.handed n) → c.key.session ≡ seat_session first place → ⊥)
-      → AreClientsOf owner (no_clients first) n k
-  beginning first owns unused = record {
+      → HasOnlyEndsLast (k.handed n) → AreClientsOf owner (no_clients first) n k
+  beginning first owns unused ends = record {
     owns = owns;
     unused = λ c place i e low. unused c place i e;
     numbers = λ c place seat i e was. absurd (unused c place i e);
     last = λ place seat c was last. absurd (cc);
     replies = λ place seat c reply was last e. absurd (cc);
+    ends = ends;
   }
 
   pub opening : (s z : ClientsState Op Reply) (session : ℕ) → AreClientsOf owner s n k → OpensAs s session z
@@ -68,6 +73,7 @@ module _ {Op O Reply : Type 0} (owner : ℕ → ℕ) (n : ℕ) (k : Hosts Op O R
     numbers = are.numbers;
     last = are.last;
     replies = are.replies;
+    ends = are.ends;
   }
   opening s _ _ are (next none within) = record {
     owns = are.owns;
@@ -89,6 +95,7 @@ module _ {Op O Reply : Type 0} (owner : ℕ → ℕ) (n : ℕ) (k : Hosts Op O R
         no_last c seat 0 a.1 last)
         (λ (b : slice_get s.seats place ≡ Some seat). are.replies place seat c reply b last e)
         (more_cases s.seats place (opened_seat 0) seat was);
+    ends = are.ends;
   }
 
   pub handing : (s z : ClientsState Op Reply) (session : ℕ) (act : Act Op) (c : Command Op)
@@ -140,7 +147,42 @@ module _ {Op O Reply : Type 0} (owner : ℕ → ℕ) (n : ℕ) (k : Hosts Op O R
               (λ (b : (place ≢ h.place) × (slice_get s.seats place ≡ Some y)).
               are.replies place y d reply b.1 last e)
               (set_cases s.seats h.place place seat y was);
+          ends = λ d i e. ⊎_elim
+              (λ (j : In d (k.handed n)). are.ends d j e)
+              (λ (x : d ≡ c).
+              let number = ap (λ (q : Command Op). q.key.number) x in let low = h.below in absurd (omega (arith, number, low, e)))
+              (handed_or k.handed n c d i);
         }),
+      )
+
+  pub ending : (s : ClientsState Op Reply) (session : ℕ) (c : Command Op) → AreClientsOf owner s n k → owner session ≡ n
+      → EndsEarlier s session c → (owner c.key.session ≡ n)
+      × ((d : Command Op) → In d (k.handed n) → d.key ≡ c.key → d ≡ c)
+      × AreClientsOf owner s n (record k { handed = with_handed k.handed n c })
+  ending s session c are mine h =
+      let its : c.key.session ≡ session = ap (λ (q : Key). q.session) h.key in
+      let last : c.key.number ≡ last_number = ap (λ (q : Key). q.number) h.key in
+      let elsewhere : (place : ℕ) → c.key.session ≡ seat_session s.first place → ⊥ = λ place e.
+          let below = h.earlier.below in let steps = h.earlier.steps in omega (arith, e, its, below) in (
+        ap owner its ∙ mine,
+        λ d i e. same_command d c e (are.ends d i (ap (λ (q : Key). q.number) e ∙ last) ∙ sym h.end),
+        record {
+          owns = are.owns;
+          unused = λ d place i e low. ⊎_elim
+              (λ (j : In d (k.handed n)). are.unused d place j e low)
+              (λ (x : d ≡ c). elsewhere place (sym (ap (λ (y : Command Op). y.key.session) x) ∙ e))
+              (handed_or k.handed n c d i);
+          numbers = λ d place seat i e was. ⊎_elim
+              (λ (j : In d (k.handed n)). are.numbers d place seat j e was)
+              (λ (x : d ≡ c). absurd (elsewhere place (sym (ap (λ (y : Command Op). y.key.session) x) ∙ e)))
+              (handed_or k.handed n c d i);
+          last = λ place seat d was is. handed_still k.handed n c n d (are.last place seat d was is);
+          replies = are.replies;
+          ends = λ d i e. ⊎_elim
+              (λ (j : In d (k.handed n)). are.ends d j e)
+              (λ (x : d ≡ c). ap (λ (y : Command Op). y.act) x ∙ h.end)
+              (handed_or k.handed n c d i);
+        },
       )
 
   pub hearing : (s z : ClientsState Op Reply) (answer : Answer Reply) → AreClientsOf owner s n k
@@ -171,6 +213,7 @@ module _ {Op O Reply : Type 0} (owner : ℕ → ℕ) (n : ℕ) (k : Hosts Op O R
             (λ r. are.replies p seat c reply was (sym (ap (λ (x : Seat Op Reply). x.last) a.1) ∙ last) r))
             (λ (b : (place ≢ p) × (slice_get s.seats place ≡ Some y)). are.replies place y c reply b.1 last e)
             (set_cases s.seats p place then y at);
+        ends = are.ends;
       }
     where
       to_it : (answer : Answer Reply) (c : Command Op) (reply : Reply) (b : Bool) → same_key c.key answer.to ≡ b
@@ -211,6 +254,7 @@ module _ {Op O Reply : Type 0} (owner : ℕ → ℕ) (n : ℕ) (k : Hosts Op O R
             (λ (a : (place ≡ f.place) × (y ≡ then)). no_last c y f.ends.seat.number a.1 last)
             (λ (b : (place ≢ f.place) × (slice_get s.seats place ≡ Some y)). are.replies place y c reply b.1 last e)
             (set_cases s.seats f.place place then y at);
+        ends = are.ends;
       })
 
   pub going_on : (s : ClientsState Op Reply) (j : Hosts Op O Reply) → AreClientsOf owner s n k
@@ -223,4 +267,5 @@ module _ {Op O Reply : Type 0} (owner : ℕ → ℕ) (n : ℕ) (k : Hosts Op O R
     last = λ place seat c was last. subst (In c) (sym same) (are.last place seat c was last);
     replies = λ place seat c reply was last e. more (record { to = c.key; reply = reply })
         (are.replies place seat c reply was last e);
+    ends = λ c i. are.ends c (subst (In c) same i);
   }

@@ -1,5 +1,5 @@
 -- The clients of one host (the client table of Viewstamped Replication Revisited, 4.1).
-use Rattle.std.specs.Prelude.{◌≡◌, ◌<◌, ◌+◌, ◌*◌, ◌++◌, ℕ, List, [], ◌∷◌, Option, None, Some, length, option_map}
+use Rattle.std.specs.Prelude.{◌≡◌, ◌<◌, ◌+◌, ◌*◌, ◌^◌, ◌++◌, ℕ, suc, List, [], ◌∷◌, Option, None, Some, length, option_map}
 use Rattle.std.specs.Prelude.{slice_get, slice_set, if◌then◌else◌}
 use Rattle.object.specs.Keys.{same_key}
 use Rattle.object.specs.declared.command.Act.{Act}
@@ -50,6 +50,11 @@ abbrev pub with_last_command : {Op Reply : Type 0} → ℕ → Command Op → Cl
 with_last_command place c s =
     record s { seats = slice_set s.seats place (record { number = c.key.number; last = Some c; reply = None }) }
 
+-- the greatest number of a command, with which a later process ends the sessions of this one, and nobody asks for
+-- anything else
+abbrev pub last_number : ℕ
+last_number = 2 ^ 62
+
 -- a command of the session at this place is handed in: the next one, which asks for this
 pub record HandsInNext {Op Reply : Type 0} (s : ClientsState Op Reply) (session : ℕ) (act : Act Op) (c : Command Op)
     (z : ClientsState Op Reply) : Type 0 where
@@ -58,8 +63,21 @@ pub record HandsInNext {Op Reply : Type 0} (s : ClientsState Op Reply) (session 
   pub seat : Seat Op Reply
   pub was : slice_get s.seats place ≡ Some seat
   pub key : c.key ≡ record { session = session; number = seat.number + 1 }
+  pub below : c.key.number < last_number
   pub asks : c.act ≡ act
   pub becomes : z ≡ with_last_command place c s
+
+-- the session is one of an earlier process, from which steps of 8 lead up to the first one of this
+pub record IsEarlier {Op Reply : Type 0} (s : ClientsState Op Reply) (session : ℕ) : Type 0 where
+  pub steps : ℕ
+  pub below : seat_session session (suc steps) ≡ s.first
+  pub client : 0 < session
+
+-- the command ends it
+pub record EndsEarlier {Op Reply : Type 0} (s : ClientsState Op Reply) (session : ℕ) (c : Command Op) : Type 0 where
+  pub earlier : IsEarlier s session
+  pub key : c.key ≡ record { session = session; number = last_number }
+  pub end : c.act ≡ Close
 
 -- the key is that of the last command
 abbrev pub IsLastOfSeat : {Op Reply : Type 0} → Seat Op Reply → Key → Type 0

@@ -9,10 +9,10 @@ pub enum ClientFault {
     /// No session has ended that could be used again, and no number is left in the block that was reserved.
     #[error("session numbers used up")]
     SessionsUsedUp,
-    /// No such session is open here.
+    /// No such session is open here, or was open in an earlier process.
     #[error("no such session")]
     NoSession,
-    /// The act isn't one of a client's session, or the session has had 2^62 commands.
+    /// The act isn't one of a client's session, or the session has had all numbers below 2^62.
     #[error("not a command of this session")]
     NoCommand,
 }

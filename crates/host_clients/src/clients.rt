@@ -1,9 +1,9 @@
 ghost use Rattle.std.specs.Prelude.{◌≡◌, ℕ, [], max, true, false, IfOk, IfSome, IfNone, OnErr, IsErrOf, slice_get};
 ghost use Rattle.std.specs.Option.{option_copied};
-ghost use Rattle.host_clients.specs.Clients.{no_clients, HasSeat, OpensAs, HandsInNext, HearsAnswer, Frees, EndsAtPlace};
+ghost use Rattle.host_clients.specs.Clients.{no_clients, HasSeat, OpensAs, HandsInNext, HearsAnswer, Frees, EndsAtPlace, EndsEarlier, IsEarlier};
 
 use crate::client_fault::ClientFault;
-use crate::seat::Seat;
+use crate::seat::{LAST_NUMBER, Seat};
 use object::{Act, Answer, Command, Key, Value};
 use std::alloc::{AllocError, Global};
 use std::marker::Model;
@@ -93,8 +93,7 @@ impl<Op: Value, Reply: Value> Clients<Op, Reply> {
     {
         let place = self.place(session).ok_or(ClientFault::NoSession)?;
         let number = self.seats[place]
-            .number
-            .checked_add(1)
+            .next_number()
             .ok_or(ClientFault::NoCommand)?;
         let command = Command::new(Key { session, number }, act).ok_or(ClientFault::NoCommand)?;
         let last = Some(command.copy()?);
@@ -149,6 +148,22 @@ impl<Op: Value, Reply: Value> Clients<Op, Reply> {
             reply: None,
         };
         Ok(true)
+    }
+
+    /// The command by which this process ends a session of an earlier one. It has the greatest number of all, which no
+    /// command of a client has, so whatever was handed in of the session comes before it.
+    pub fn end_earlier(&self, session: u32) -> Result<Command<Op>, ClientFault>
+        ensures ok { IfOk result (λ command. EndsEarlier self.now session command) }
+        ensures err { OnErr result (IsEarlier self.now session → ⊥) }
+    {
+        if session == 0 || session >= self.first || (self.first - session) % 8 != 0 {
+            return Err(ClientFault::NoSession);
+        }
+        let key = Key {
+            session,
+            number: LAST_NUMBER,
+        };
+        Command::new(key, Act::Close).ok_or(ClientFault::NoCommand)
     }
 
     // The place of a session's seat.

@@ -1,8 +1,11 @@
-ghost use Rattle.std.specs.Prelude.{◌≡◌, true, false, ◌↔◌};
+ghost use Rattle.std.specs.Prelude.{◌≡◌, ◌<◌, ◌+◌, true, false, ◌↔◌, IfSome};
 ghost use Rattle.object.specs.declared.command.Act.TheVariants.{Close};
-ghost use Rattle.host_clients.specs.Clients.{IsLastOfSeat, IsEndOf, heard};
+ghost use Rattle.host_clients.specs.Clients.{IsLastOfSeat, IsEndOf, heard, last_number};
 
 use object::{Act, Answer, Command, Key};
+
+/// The greatest number of a command. A session's own commands stay below it.
+pub(crate) const LAST_NUMBER: u64 = 1 << 62;
 
 /// What is kept of a session: the number of its last command, and, while it is open, that command and the reply to it,
 /// where these are there.
@@ -14,6 +17,14 @@ pub struct Seat<Op, Reply> {
 }
 
 impl<Op, Reply> Seat<Op, Reply> {
+    /// The number of the session's next command, where one is left.
+    pub(crate) fn next_number(&self) -> Option<u64>
+        ensures { IfSome result (λ number. (number ≡ self.now.number + 1) × (number < last_number)) }
+    {
+        let next = self.number.checked_add(1)?;
+        if next < LAST_NUMBER { Some(next) } else { None }
+    }
+
     /// Whether the last command has this key, and is the session's end.
     pub(crate) fn ends_with(&self, key: Key) -> bool
         ensures yes { result ≡ true → IsEndOf self.now key }
