@@ -121,18 +121,18 @@ impl<O: Object> Once<O> {
             (filtered O.rules.after self.old cmd.now) }
         ensures stale { IfOk result (λ effect. effect ≡ Effect.Stale → self.new ≡ self.old) }
     {
-        let key = cmd.key();
-        match self.latest.get(key.session) {
-            Some(latest) if key.number <= latest => Ok(Effect::Stale),
+        let Key { session, number } = cmd.key();
+        match self.latest.get(session) {
+            Some(latest) if number <= latest => Ok(Effect::Stale),
             Some(_) => {
                 self.object.obey(cmd)?;
-                self.latest.set(key.session, key.number)?;
+                self.latest.set(session, number)?;
                 Ok(Effect::Done)
             }
             None => {
-                self.latest.set(key.session, key.number)?;
+                self.latest.set(session, number)?;
                 if let Err(e) = self.object.obey(cmd) {
-                    self.latest.forget(key.session);
+                    self.latest.forget(session);
                     return Err(e);
                 }
                 Ok(Effect::Done)

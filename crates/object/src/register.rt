@@ -101,7 +101,7 @@ impl Object for Register {
 
     fn obey(&mut self, cmd: &Command<RegisterOp>) -> Result<(), AllocError> {
         if let Act::Do(RegisterOp::Write(value)) = cmd.act() {
-            self.value = *value;
+            *self = Register { value: *value };
         }
         Ok(())
     }

@@ -6,7 +6,7 @@ use Rattle.object.proofs.once.Once.obey.Goals as goal
 
 pub returns-in-Err-clause-state : goal.returns-in-Err-clause-state
 returns-in-Err-clause-state g c =
-    let key = c.key-key.result in
+    let key = c.key-session.result in
     let latest : c.forget.new.self ≡ c.self.inside.latest =
     c.forget.ensures ∙ ap (λ (m : LatestNumbers). remove m key.session) c.in_ok-set-in-None.ensures.ok.0 ∙ remove-insert
     c.self.inside.latest key.session key.number (sym c.get.ensures ∙ c.in-None.is) in
