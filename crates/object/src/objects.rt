@@ -42,6 +42,11 @@ pub trait Object: Drop + Sized {
             ++ rules.answers self.old cmd.now) }
         ensures err { OnErr result ((self.new ≡ self.old) × (out.new.items ≡ out.old.items)) };
 
+    /// Obeys a command, and answers nobody. For want of memory it changes nothing.
+    fn obey(&mut self, cmd: &Command<Self::Op>) -> Result<(), AllocError>
+        ensures state { OnOk result (self.new ≡ rules.after self.old cmd.now) }
+        ensures err { OnErr result (self.new ≡ self.old) };
+
     /// The promise holds of all commands. Nothing is done.
     fn keeps_promise()
         ensures { (commands : List (Command Self.Op)) → promise commands };

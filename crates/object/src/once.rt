@@ -112,4 +112,31 @@ impl<O: Object> Once<O> {
             }
         }
     }
+
+    /// Lets the object obey the command, unless it is stale, and answers nobody.
+    pub fn obey(&mut self, cmd: &Command<O::Op>) -> Result<Effect, AllocError>
+        ensures done { IfOk result (λ effect. (effect
+            ≡ Effect.Done) ↔ (is_later cmd.now.key self.old.latest ≡ true)) }
+        ensures state { Becomes result self.old self.new
+            (filtered O.rules.after self.old cmd.now) }
+        ensures stale { IfOk result (λ effect. effect ≡ Effect.Stale → self.new ≡ self.old) }
+    {
+        let Key { session, number } = cmd.key();
+        match self.latest.get(session) {
+            Some(latest) if number <= latest => Ok(Effect::Stale),
+            Some(_) => {
+                self.object.obey(cmd)?;
+                self.latest.set(session, number)?;
+                Ok(Effect::Done)
+            }
+            None => {
+                self.latest.set(session, number)?;
+                if let Err(e) = self.object.obey(cmd) {
+                    self.latest.forget(session);
+                    return Err(e);
+                }
+                Ok(Effect::Done)
+            }
+        }
+    }
 }

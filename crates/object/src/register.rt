@@ -99,6 +99,13 @@ impl Object for Register {
         Ok(())
     }
 
+    fn obey(&mut self, cmd: &Command<RegisterOp>) -> Result<(), AllocError> {
+        if let Act::Do(RegisterOp::Write(value)) = cmd.act() {
+            *self = Register { value: *value };
+        }
+        Ok(())
+    }
+
     fn keeps_promise() {}
 
     ghost use Rattle.std.proofs.Common.{inl};
