@@ -40,8 +40,7 @@ impl Ballot {
 
     /// Its round.
     pub fn round(&self) -> u64
-        ensures round { result ≡ self.now.round }
-        ensures allowed { IsBallot self.now }
+        ensures { result ≡ self.now.round }
     {
         self.round
     }

@@ -6,7 +6,6 @@ use Rattle.object.specs.declared.command.Act.{Act}
 use Rattle.object.specs.declared.command.Act.TheVariants.{Do, Close, Tick}
 use Rattle.object.specs.declared.command.Key.{Key}
 use Rattle.object.specs.Commands.{KeyedAct, MayAsk, IsCommand}
-use Rattle.ballot.specs.Ballots.{Numbers, IsBallot}
 use Rattle.bean_codec.specs.TubeNames.{Decided}
 
 both_hold : {P Q : Type 0} → Decided P → Decided Q → Decided (P × Q)
@@ -29,14 +28,8 @@ is_positive : (n : ℕ) → Decided (0 < n)
 is_positive zero = inr (λ h. omega (arith, h))
 is_positive (suc n) = inl (omega arith)
 
-pub slot_rule : (n : ℕ) → Decided ((0 < n) × (n ≤ 2 ^ 62))
-slot_rule n = both_hold (is_positive n) (at_most n (2 ^ 62))
-
-pub ballot_rule : (b : Numbers) → Decided (IsBallot b)
-ballot_rule b = told_by
-    (λ h. record { round = h.0; above = h.1.0.0; node = h.1.0.1; boot = h.1.1 })
-    (λ h. (h.round, ((h.above, h.node), h.boot)))
-    (both_hold (at_most b.round (2 ^ 62)) (both_hold (both_hold (is_positive b.node) (at_most b.node 7)) (at_most b.boot (2 ^ 62))))
+number_rule : (n : ℕ) → Decided ((0 < n) × (n ≤ 2 ^ 62))
+number_rule n = both_hold (is_positive n) (at_most n (2 ^ 62))
 
 act_rule : {Op : Type 0} (key : Key) (act : Act Op) → Decided (MayAsk key act)
 act_rule key (Do op) = is_positive key.session
@@ -47,4 +40,4 @@ pub command_rule : {Op : Type 0} (c : KeyedAct Op) → Decided (IsCommand c)
 command_rule c = told_by
     (λ h. record { above = h.0.0; within = h.0.1; allowed = h.1 })
     (λ h. ((h.above, h.within), h.allowed))
-    (both_hold (slot_rule c.key.number) (act_rule c.key c.act))
+    (both_hold (number_rule c.key.number) (act_rule c.key c.act))

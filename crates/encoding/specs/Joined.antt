@@ -1,12 +1,12 @@
 -- Formats of values that have parts.
 use Rattle.std.proofs.Common.{◌≡◌, ◌<◌, ◌≤◌, ◌^◌, ℕ, inl, inr, Bool, false, cond, ltb, List, [], ◌∷◌, ◌++◌, length, take, drop}
 use Rattle.std.proofs.Common.{Option, Some, None, refl, sym, ap, subst, ◌∙◌, append_assoc, arith}
-use Rattle.std.specs.Int.{w32, to_be_bytes}
+use Rattle.std.specs.Int.{w64, to_be_bytes}
 use Rattle.std.specs.Prelude.{⊤}
 use Rattle.std.proofs.lemmas.Bool.{ltb-false, le-ltb}
 use Rattle.std.proofs.lemmas.List.{take_at, drop_at, length-append, length-take}
 use Rattle.bean_codec.specs.TubeNames.{Decided}
-use Rattle.encoding.specs.Numbers.{number_at, number_takes, number_again, wide32, guard_some, Takes-front}
+use Rattle.encoding.specs.Numbers.{number_at, number_takes, number_again, wide64, guard_some, Takes-front}
 use Rattle.encoding.specs.Formats.{◌>>=◌, AreBytes, Takes, Takes-then, Format, bind_some, some_is}
 
 -- one value behind the other
@@ -134,38 +134,38 @@ ruled {B} f Rule rule = record {
 -- so many bytes, behind their number
 abbrev pub sized : Format (List ℕ)
 sized = record {
-  bytes = λ bs. to_be_bytes w32 (length bs) ++ bs;
+  bytes = λ bs. to_be_bytes w64 (length bs) ++ bs;
   at = sized_at;
-  Fits = λ bs. length bs < 2 ^ 32;
+  Fits = λ bs. length bs < 2 ^ 64;
   takes = sized_takes;
   again = sized_again;
 }
   where
     sized_at : List ℕ → Option (List ℕ × List ℕ)
     sized_at text = do
-      n ← number_at w32 text
+      n ← number_at w64 text
       cond (ltb (length n.1) n.0) None (Some (take n.0 n.1, drop n.0 n.1))
 
     sized_takes : (text bs rest : List ℕ) → AreBytes text → sized_at text ≡ Some (bs, rest)
-        → Takes text (to_be_bytes w32 (length bs) ++ bs) rest × (length bs < 2 ^ 32)
+        → Takes text (to_be_bytes w64 (length bs) ++ bs) rest × (length bs < 2 ^ 64)
     sized_takes text bs rest are e =
-        let b = bind_some (number_at w32 text) (λ n. cond (ltb (length n.1) n.0) None (Some (take n.0 n.1, drop n.0 n.1)))
+        let b = bind_some (number_at w64 text) (λ n. cond (ltb (length n.1) n.0) None (Some (take n.0 n.1, drop n.0 n.1)))
             (bs, rest) e in
         let n = b.0 in
-        let t = number_takes w32 (2 ^ 32) wide32 text n.0 n.1 are b.1 in
+        let t = number_takes w64 (2 ^ 64) wide64 text n.0 n.1 are b.1 in
         let long = guard_some (ltb (length n.1) n.0) (take n.0 n.1, drop n.0 n.1) (bs, rest) b.2 in
         let enough : n.0 ≤ length n.1 = ltb-false _ _ long.0 in
         let len : length (take n.0 n.1) ≡ n.0 = omega (arith, length-take n.0 n.1) in
-        let whole = Takes-then text (to_be_bytes w32 n.0) n.1 (take n.0 n.1) (drop n.0 n.1) t.0
+        let whole = Takes-then text (to_be_bytes w64 n.0) n.1 (take n.0 n.1) (drop n.0 n.1) t.0
             (Takes-front n.0 n.1 t.0.rest_bytes) in
-        let here : Takes text (to_be_bytes w32 (length (take n.0 n.1)) ++ take n.0 n.1) (drop n.0 n.1) =
-            subst (λ (k : ℕ). Takes text (to_be_bytes w32 k ++ take n.0 n.1) (drop n.0 n.1)) (sym len) whole in
-        subst (λ (p : List ℕ × List ℕ). Takes text (to_be_bytes w32 (length p.0) ++ p.0) p.1 × (length p.0 < 2 ^ 32)) long.1
+        let here : Takes text (to_be_bytes w64 (length (take n.0 n.1)) ++ take n.0 n.1) (drop n.0 n.1) =
+            subst (λ (k : ℕ). Takes text (to_be_bytes w64 k ++ take n.0 n.1) (drop n.0 n.1)) (sym len) whole in
+        subst (λ (p : List ℕ × List ℕ). Takes text (to_be_bytes w64 (length p.0) ++ p.0) p.1 × (length p.0 < 2 ^ 64)) long.1
         (here, omega (arith, t.1, len))
 
-    sized_again : (bs rest : List ℕ) → length bs < 2 ^ 32 → sized_at ((to_be_bytes w32 (length bs) ++ bs) ++ rest) ≡ Some (bs, rest)
+    sized_again : (bs rest : List ℕ) → length bs < 2 ^ 64 → sized_at ((to_be_bytes w64 (length bs) ++ bs) ++ rest) ≡ Some (bs, rest)
     sized_again bs rest low =
         let long : ltb (length (bs ++ rest)) (length bs) ≡ false = le-ltb _ _ (omega (arith, length-append bs rest)) in
-        ap sized_at (append_assoc (to_be_bytes w32 (length bs)) bs rest)
-        ∙ rw (number_again w32 (2 ^ 32) wide32 (length bs) (bs ++ rest) low, long, take_at bs rest (length bs) refl,
+        ap sized_at (append_assoc (to_be_bytes w64 (length bs)) bs rest)
+        ∙ rw (number_again w64 (2 ^ 64) wide64 (length bs) (bs ++ rest) low, long, take_at bs rest (length bs) refl,
         drop_at bs rest (length bs) refl) refl

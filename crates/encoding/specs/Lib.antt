@@ -3,5 +3,6 @@ pub mod Numbers
 pub mod Joined
 pub mod Variants
 pub mod Decisions
+pub mod Words
 pub mod Commands
-pub mod Ballots
+pub mod Operations
