@@ -1,11 +1,11 @@
 -- Commands as bytes: a key, and what it asks for.
-use Rattle.std.proofs.Common.{◌≡◌, ℕ, Bool, true, false, cond, eqb, List, [], ◌∷◌, ◌++◌, Option, Some, None, refl, ap}
+use Rattle.std.proofs.Common.{◌≡◌, ℕ, cond, eqb, List, [], ◌∷◌, ◌++◌, Option, Some, None, refl, ap}
 use Rattle.std.specs.Prelude.{⊤}
 use Rattle.object.specs.declared.command.Act.{Act}
 use Rattle.object.specs.declared.command.Act.TheVariants.{Do, Close, Tick}
 use Rattle.object.specs.declared.command.Key.{Key}
 use Rattle.object.specs.Commands.{KeyedAct, IsCommand}
-use Rattle.encoding.specs.Formats.{◌>>=◌, AreBytes, Takes, Format}
+use Rattle.encoding.specs.Formats.{◌>>=◌, AreBytes, Takes, Format, no_value}
 use Rattle.encoding.specs.Numbers.{u32_format, u64_format}
 use Rattle.encoding.specs.Joined.{nothing, both, seen, ruled}
 use Rattle.encoding.specs.Variants.{read_as, of_kind, by_choice}
@@ -41,7 +41,7 @@ act_format {Op} f = record { bytes = act_bytes; at = act_at; Fits = FitsAct; tak
 
     act_takes : (text : List ℕ) (act : Act Op) (rest : List ℕ) → AreBytes text → act_at text ≡ Some (act, rest)
         → Takes text (act_bytes act) rest × FitsAct act
-    act_takes [] act rest are e = absurd cc
+    act_takes [] act rest are e = no_value (act, rest) e
     act_takes (t ∷ text) act rest are e =
         by_choice (eqb t 0) (read_as f Do text)
         (cond (eqb t 1) (Some (Close, text)) (cond (eqb t 2) (Some (Tick, text)) None)) (act, rest) e
@@ -50,7 +50,7 @@ act_format {Op} f = record { bytes = act_bytes; at = act_at; Fits = FitsAct; tak
         (λ is k. of_kind nothing (λ u. Close) act_bytes FitsAct t 1 (λ u. refl) (λ u fits. tt) text act rest are is k)
         (λ k. by_choice (eqb t 2) (Some (Tick, text)) None (act, rest) k
         (λ is l. of_kind nothing (λ u. Tick) act_bytes FitsAct t 2 (λ u. refl) (λ u fits. tt) text act rest are is l)
-        (λ l. absurd cc)))
+        (λ l. no_value (act, rest) l)))
 
     act_again : (act : Act Op) (rest : List ℕ) → FitsAct act → act_at (act_bytes act ++ rest) ≡ Some (act, rest)
     act_again (Do op) rest fits = ap (λ r. r >>= λ o. Some (Do o.0, o.1)) (f.again op rest fits)

@@ -1,5 +1,5 @@
 -- What a format is: how the values of a type are written in bytes, and how bytes are read as such a value.
-use Rattle.std.proofs.Common.{◌≡◌, ◌<◌, ℕ, List, [], ◌++◌, get_or, Option, Some, None, refl, sym, ap, ◌∙◌, append_assoc}
+use Rattle.std.proofs.Common.{◌≡◌, ◌<◌, ℕ, List, ◌++◌, get_or, Option, Some, None, refl, sym, ap, ◌∙◌, append_assoc}
 use Rattle.std.specs.Prelude.{⊤, Result, Ok, Err, option_and_then}
 use Rattle.encoding.specs.declared.fault.DecodeFault.{DecodeFault}
 use Rattle.encoding.specs.declared.fault.DecodeFault.TheVariants.{OutOfMemory, Malformed}
@@ -48,3 +48,7 @@ bind_some None next b e = absurd cc
 
 pub some_is : {A : Type 0} (x y : A) → Some x ≡ Some y → x ≡ y
 some_is x y e = cc
+
+-- nothing was read
+pub no_value : {A X : Type 0} (a : A) → None ≡ Some a → X
+no_value a e = absurd cc

@@ -1,5 +1,5 @@
 -- Formats of values that have parts.
-use Rattle.std.proofs.Common.{◌≡◌, ◌<◌, ◌≤◌, ◌^◌, ℕ, inl, inr, Bool, false, cond, ltb, List, [], ◌∷◌, ◌++◌, length, take, drop}
+use Rattle.std.proofs.Common.{◌≡◌, ◌<◌, ◌≤◌, ◌^◌, ℕ, inl, inr, false, cond, ltb, List, [], ◌++◌, length, take, drop}
 use Rattle.std.proofs.Common.{Option, Some, None, refl, sym, ap, subst, ◌∙◌, append_assoc, arith}
 use Rattle.std.specs.Int.{w64, to_be_bytes}
 use Rattle.std.specs.Prelude.{⊤}
@@ -150,16 +150,16 @@ sized = record {
         → Takes text (to_be_bytes w64 (length bs) ++ bs) rest × (length bs < 2 ^ 64)
     sized_takes text bs rest are e =
         let b = bind_some (number_at w64 text) (λ n. cond (ltb (length n.1) n.0) None (Some (take n.0 n.1, drop n.0 n.1)))
-            (bs, rest) e in
+        (bs, rest) e in
         let n = b.0 in
         let t = number_takes w64 (2 ^ 64) wide64 text n.0 n.1 are b.1 in
         let long = guard_some (ltb (length n.1) n.0) (take n.0 n.1, drop n.0 n.1) (bs, rest) b.2 in
         let enough : n.0 ≤ length n.1 = ltb-false _ _ long.0 in
         let len : length (take n.0 n.1) ≡ n.0 = omega (arith, length-take n.0 n.1) in
         let whole = Takes-then text (to_be_bytes w64 n.0) n.1 (take n.0 n.1) (drop n.0 n.1) t.0
-            (Takes-front n.0 n.1 t.0.rest_bytes) in
+        (Takes-front n.0 n.1 t.0.rest_bytes) in
         let here : Takes text (to_be_bytes w64 (length (take n.0 n.1)) ++ take n.0 n.1) (drop n.0 n.1) =
-            subst (λ (k : ℕ). Takes text (to_be_bytes w64 k ++ take n.0 n.1) (drop n.0 n.1)) (sym len) whole in
+        subst (λ (k : ℕ). Takes text (to_be_bytes w64 k ++ take n.0 n.1) (drop n.0 n.1)) (sym len) whole in
         subst (λ (p : List ℕ × List ℕ). Takes text (to_be_bytes w64 (length p.0) ++ p.0) p.1 × (length p.0 < 2 ^ 64)) long.1
         (here, omega (arith, t.1, len))
 
@@ -167,5 +167,9 @@ sized = record {
     sized_again bs rest low =
         let long : ltb (length (bs ++ rest)) (length bs) ≡ false = le-ltb _ _ (omega (arith, length-append bs rest)) in
         ap sized_at (append_assoc (to_be_bytes w64 (length bs)) bs rest)
-        ∙ rw (number_again w64 (2 ^ 64) wide64 (length bs) (bs ++ rest) low, long, take_at bs rest (length bs) refl,
-        drop_at bs rest (length bs) refl) refl
+        ∙ rw (
+          number_again w64 (2 ^ 64) wide64 (length bs) (bs ++ rest) low,
+          long,
+          take_at bs rest (length bs) refl,
+          drop_at bs rest (length bs) refl,
+        ) refl

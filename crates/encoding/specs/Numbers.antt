@@ -1,6 +1,6 @@
 -- Numbers of a width, their highest byte first.
-use Rattle.std.proofs.Common.{◌≡◌, ◌<◌, ◌≤◌, ◌+◌, ◌^◌, ℕ, Bool, true, false, cond, ltb, List, [], ◌∷◌, ◌++◌, length, get_or, take, drop}
-use Rattle.std.proofs.Common.{Option, Some, None, refl, sym, ap, ◌∙◌, arith, inl, inr}
+use Rattle.std.proofs.Common.{◌≡◌, ◌<◌, ◌≤◌, ◌+◌, ◌^◌, ℕ, Bool, true, false, cond, ltb, List, ◌++◌, length, take, drop}
+use Rattle.std.proofs.Common.{Option, Some, None, refl, sym, ap, arith, inl, inr}
 use Rattle.std.specs.Int.{Width, w32, w64, byte_len, from_be_bytes, to_be_bytes}
 use Rattle.std.proofs.lemmas.Bool.{cases_lt, ltb-false, le-ltb}
 use Rattle.std.proofs.lemmas.List.{take_at, drop_at, take-append-drop, length-append, length-take, get_or-drop, get_or-take, get_or_past}
@@ -58,24 +58,26 @@ pub number_takes : (w : Width) (limit : ℕ) (wide : IsWide w limit) (text : Lis
     → number_at w text ≡ Some (n, rest) → Takes text (to_be_bytes w n) rest × (n < limit)
 number_takes w limit wide text n rest are e =
     let long = guard_some (ltb (length text) (byte_len w)) (from_be_bytes w (take (byte_len w) text), drop (byte_len w) text)
-        (n, rest) e in
+    (n, rest) e in
     let enough : byte_len w ≤ length text = ltb-false _ _ long.0 in
     let number : from_be_bytes w (take (byte_len w) text) ≡ n = ap (λ (p : ℕ × List ℕ). p.0) long.1 in
     let behind : drop (byte_len w) text ≡ rest = ap (λ (p : ℕ × List ℕ). p.1) long.1 in
     let few = AreBytes-take (byte_len w) text are in
     let front : to_be_bytes w n ≡ take (byte_len w) text =
-        rw (← number) (wide.back (take (byte_len w) text) (omega (arith, length-take (byte_len w) text)) few) in
-    (record {
-      parts = rw (front, ← behind) (sym (take-append-drop (byte_len w) text));
-      rest_bytes = rw (← behind) (AreBytes-drop (byte_len w) text are);
-    }, rw (← number) (wide.below (take (byte_len w) text) few))
+    rw (← number) (wide.back (take (byte_len w) text) (omega (arith, length-take (byte_len w) text)) few) in (
+      record {
+        parts = rw (front, ← behind) (sym (take-append-drop (byte_len w) text));
+        rest_bytes = rw (← behind) (AreBytes-drop (byte_len w) text are);
+      },
+      rw (← number) (wide.below (take (byte_len w) text) few),
+    )
 
 pub number_again : (w : Width) (limit : ℕ) (wide : IsWide w limit) (n : ℕ) (rest : List ℕ) → n < limit
     → number_at w (to_be_bytes w n ++ rest) ≡ Some (n, rest)
 number_again w limit wide n rest low =
     let len = wide.len n in
     let long : ltb (length (to_be_bytes w n ++ rest)) (byte_len w) ≡ false =
-        le-ltb _ _ (omega (arith, length-append (to_be_bytes w n) rest)) in
+    le-ltb _ _ (omega (arith, length-append (to_be_bytes w n) rest)) in
     rw (long, take_at (to_be_bytes w n) rest (byte_len w) len, drop_at (to_be_bytes w n) rest (byte_len w) len, wide.same n low)
     refl
 

@@ -16,7 +16,7 @@ use Rattle.encoding.specs.Words.{name_format, optional}
 abbrev pub put_format : Format ((ℕ × (ℕ × ℕ)) × List ℕ)
 put_format = both (both u32_format (both u32_format u32_format)) sized
 
-abbrev pub release_format : Format (ℕ × ℕ × ℕ)
+abbrev pub release_format : Format (ℕ × (ℕ × ℕ))
 release_format = both u64_format (both u32_format u32_format)
 
 abbrev pub bury_format : Format (ℕ × ℕ)
@@ -60,7 +60,7 @@ args_bytes (Ignore tube) = name_format.bytes tube
 args_bytes (Reserve seconds) = (optional u32_format).bytes seconds
 args_bytes (Delete id) = u64_format.bytes id
 args_bytes (Touch id) = u64_format.bytes id
-args_bytes (Release id pri delay) = release_format.bytes (id, pri, delay)
+args_bytes (Release id pri delay) = release_format.bytes (id, (pri, delay))
 args_bytes (Bury id pri) = bury_format.bytes (id, pri)
 args_bytes (Kick bound) = u32_format.bytes bound
 args_bytes (KickJob id) = u64_format.bytes id
@@ -83,7 +83,7 @@ FitsOp (Ignore tube) = name_format.Fits tube
 FitsOp (Reserve seconds) = (optional u32_format).Fits seconds
 FitsOp (Delete id) = u64_format.Fits id
 FitsOp (Touch id) = u64_format.Fits id
-FitsOp (Release id pri delay) = release_format.Fits (id, pri, delay)
+FitsOp (Release id pri delay) = release_format.Fits (id, (pri, delay))
 FitsOp (Bury id pri) = bury_format.Fits (id, pri)
 FitsOp (Kick bound) = u32_format.Fits bound
 FitsOp (KickJob id) = u64_format.Fits id
@@ -143,7 +143,7 @@ ReadsOp t text op rest = Takes (t ∷ text) (op_bytes op) rest × FitsOp op
 
 look_takes : (t : ℕ) (text : List ℕ) (op : Op) (rest : List ℕ) → AreBytes (t ∷ text) → look_of t text ≡ Some (op, rest)
     → ReadsOp t text op rest
-unfolding look_of, op_bytes, op_kind, args_bytes, FitsOp
+unfolding look_of op_bytes op_kind args_bytes FitsOp
 look_takes t text op rest are e =
     by_choice (eqb t 12) _ _ _ e (λ is h. of_kind u64_format Peek op_bytes FitsOp t 12 (λ id. refl) (λ id fits. fits) text op rest are is h) (λ e.
     by_choice (eqb t 13) _ _ _ e (λ is h. of_kind nothing (λ u. PeekReady) op_bytes FitsOp t 13 (λ u. refl) (λ u fits. tt) text op rest are is h) (λ e.
@@ -159,7 +159,7 @@ look_takes t text op rest are e =
 
 tube_takes : (t : ℕ) (text : List ℕ) (op : Op) (rest : List ℕ) → AreBytes (t ∷ text) → tube_op_of t text ≡ Some (op, rest)
     → ReadsOp t text op rest
-unfolding tube_op_of, op_bytes, op_kind, args_bytes, FitsOp
+unfolding tube_op_of op_bytes op_kind args_bytes FitsOp
 tube_takes t text op rest are e =
     by_choice (eqb t 1) _ _ _ e (λ is h. of_kind name_format Use op_bytes FitsOp t 1 (λ tube. refl) (λ tube fits. fits) text op rest are is h) (λ e.
     by_choice (eqb t 2) _ _ _ e (λ is h. of_kind name_format Watch op_bytes FitsOp t 2 (λ tube. refl) (λ tube fits. fits) text op rest are is h) (λ e.
@@ -169,7 +169,7 @@ tube_takes t text op rest are e =
 
 job_takes : (t : ℕ) (text : List ℕ) (op : Op) (rest : List ℕ) → AreBytes (t ∷ text) → job_op_of t text ≡ Some (op, rest)
     → ReadsOp t text op rest
-unfolding job_op_of, op_bytes, op_kind, args_bytes, FitsOp
+unfolding job_op_of op_bytes op_kind args_bytes FitsOp
 job_takes t text op rest are e =
     by_choice (eqb t 5) _ _ _ e (λ is h. of_kind u64_format Delete op_bytes FitsOp t 5 (λ id. refl) (λ id fits. fits) text op rest are is h) (λ e.
     by_choice (eqb t 6) _ _ _ e (λ is h. of_kind u64_format Touch op_bytes FitsOp t 6 (λ id. refl) (λ id fits. fits) text op rest are is h) (λ e.
@@ -181,7 +181,7 @@ job_takes t text op rest are e =
 
 pub op_takes : (text : List ℕ) (op : Op) (rest : List ℕ) → AreBytes text → op_at text ≡ Some (op, rest)
     → Takes text (op_bytes op) rest × FitsOp op
-unfolding op_at, op_of, op_bytes, op_kind, args_bytes, FitsOp
+unfolding op_at op_of op_bytes op_kind args_bytes FitsOp
 op_takes [] op rest are e = absurd cc
 op_takes (t ∷ text) op rest are e =
     by_choice (eqb t 0) _ _ _ e (λ is h. of_kind put_format (λ p. Put p.0.0 p.0.1.0 p.0.1.1 p.1) op_bytes FitsOp t 0 (λ p. refl) (λ p fits. fits) text op rest are is h) (λ e.
@@ -195,7 +195,7 @@ again_as : {B : Type 0} (f : Format B) (into : B → Op) (b : B) (rest : List �
 again_as f into b rest fits = ap (λ r. r >>= λ c. Some (into c.0, c.1)) (f.again b rest fits)
 
 pub op_again : (op : Op) (rest : List ℕ) → FitsOp op → op_at (op_bytes op ++ rest) ≡ Some (op, rest)
-unfolding op_at, op_of, job_op_of, tube_op_of, look_of, op_bytes, op_kind, args_bytes, FitsOp
+unfolding op_at op_of job_op_of tube_op_of look_of op_bytes op_kind args_bytes FitsOp
 op_again (Put pri delay ttr body) rest fits = again_as put_format (λ p. Put p.0.0 p.0.1.0 p.0.1.1 p.1) ((pri, (delay, ttr)), body) rest fits
 op_again (Use tube) rest fits = again_as name_format Use tube rest fits
 op_again (Watch tube) rest fits = again_as name_format Watch tube rest fits
@@ -203,7 +203,7 @@ op_again (Ignore tube) rest fits = again_as name_format Ignore tube rest fits
 op_again (Reserve seconds) rest fits = again_as (optional u32_format) Reserve seconds rest fits
 op_again (Delete id) rest fits = again_as u64_format Delete id rest fits
 op_again (Touch id) rest fits = again_as u64_format Touch id rest fits
-op_again (Release id pri delay) rest fits = again_as release_format (λ p. Release p.0 p.1.0 p.1.1) (id, pri, delay) rest fits
+op_again (Release id pri delay) rest fits = again_as release_format (λ p. Release p.0 p.1.0 p.1.1) (id, (pri, delay)) rest fits
 op_again (Bury id pri) rest fits = again_as bury_format (λ p. Bury p.0 p.1) (id, pri) rest fits
 op_again (Kick bound) rest fits = again_as u32_format Kick bound rest fits
 op_again (KickJob id) rest fits = again_as u64_format KickJob id rest fits

@@ -46,25 +46,25 @@ fn encode_args(op: &Op, out: &mut Vec<u8>) -> Result<(), AllocError>
     ensures fits { OnOk result (FitsOp op.now) }
 {
     match op {
-        Op::Put { pri, delay, ttr, body } => {
+        Op::Put {
+            pri,
+            delay,
+            ttr,
+            body,
+        } => {
             pri.encode(out)?;
             delay.encode(out)?;
             ttr.encode(out)?;
             body.encode(out)
         }
-        Op::Use(tube) | Op::Watch(tube) | Op::Ignore(tube) | Op::StatsTube(tube) => tube.encode(out),
+        Op::Use(tube) | Op::Watch(tube) | Op::Ignore(tube) | Op::StatsTube(tube) => tube.encode(
+            out,
+        ),
         Op::Reserve { seconds } => seconds.encode(out),
         Op::Delete(id) | Op::Touch(id) | Op::KickJob(id) => id.encode(out),
         Op::ReserveJob(id) | Op::Peek(id) | Op::StatsJob(id) => id.encode(out),
-        Op::Release { id, pri, delay } => {
-            id.encode(out)?;
-            pri.encode(out)?;
-            delay.encode(out)
-        }
-        Op::Bury { id, pri } => {
-            id.encode(out)?;
-            pri.encode(out)
-        }
+        Op::Release { id, pri, delay } => (*id, (*pri, *delay)).encode(out),
+        Op::Bury { id, pri } => (*id, *pri).encode(out),
         Op::Kick(bound) => bound.encode(out),
         Op::Pause { tube, seconds } => {
             tube.encode(out)?;
@@ -174,7 +174,15 @@ fn decode_op(kind: u8, alloc: Global, bytes: &[u8]) -> Result<(Op, &[u8]), Decod
             let (numbers, rest) = <(u32, (u32, u32))>::decode(alloc, bytes)?;
             let (body, rest) = Body::decode(alloc, rest)?;
             let (pri, (delay, ttr)) = numbers;
-            Ok((Op::Put { pri, delay, ttr, body }, rest))
+            Ok((
+                Op::Put {
+                    pri,
+                    delay,
+                    ttr,
+                    body,
+                },
+                rest,
+            ))
         }
         4 => {
             let (seconds, rest) = <Option<u32>>::decode(alloc, bytes)?;

@@ -163,7 +163,7 @@ module _ {Op O Reply : Type 0} (owner : ℕ → ℕ) (n : ℕ) (k : Hosts Op O R
       let its : c.key.session ≡ session = ap (λ (q : Key). q.session) h.key in
       let last : c.key.number ≡ last_number = ap (λ (q : Key). q.number) h.key in
       let elsewhere : (place : ℕ) → c.key.session ≡ seat_session s.first place → ⊥ = λ place e.
-          let below = h.earlier.below in let steps = h.earlier.steps in omega (arith, e, its, below) in (
+      let below = h.earlier.below in let steps = h.earlier.steps in omega (arith, e, its, below) in (
         ap owner its ∙ mine,
         λ d i e. same_command d c e (are.ends d i (ap (λ (q : Key). q.number) e ∙ last) ∙ sym h.end),
         record {
