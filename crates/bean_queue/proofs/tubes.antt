@@ -6,3 +6,4 @@ pub mod Settled
 pub mod Listed
 pub mod Turning
 pub mod Staying
+pub mod Reporting

@@ -211,3 +211,17 @@ abbrev pub lists_tubes : Op → Bool
 lists_tubes Op.ListTubes = true
 lists_tubes Op.Stats = true
 lists_tubes _ = false
+
+-- the operation only reports: beside that it is counted, and that its session is there, nothing changes
+abbrev pub only_reports : Op → Bool
+only_reports (Op.Peek id) = true
+only_reports Op.PeekReady = true
+only_reports Op.PeekDelayed = true
+only_reports Op.PeekBuried = true
+only_reports Op.ListTubes = true
+only_reports Op.ListTubeUsed = true
+only_reports Op.ListTubesWatched = true
+only_reports (Op.StatsJob id) = true
+only_reports (Op.StatsTube tube) = true
+only_reports Op.Stats = true
+only_reports _ = false

@@ -1,5 +1,6 @@
 ghost use Rattle.std.specs.Prelude.{◌≡◌, ◌≤◌, ◌^◌, true, false, None, IfOk, IfSome, if◌then◌else◌};
-ghost use Rattle.bean_queue.specs.Effects.{do_effect, close_effect, tick_effect, is_quiet, lists_tubes};
+ghost use Rattle.object.specs.Results.{Becomes};
+ghost use Rattle.bean_queue.specs.Effects.{do_effect, close_effect, tick_effect, effect, is_quiet, lists_tubes, only_reports};
 ghost use Rattle.bean_queue.specs.Tubes.{all_tubes};
 ghost use Rattle.bean_queue.specs.Staying.{IsListedBefore};
 ghost use Rattle.bean_queue.specs.Calls.{HasObeyed};
@@ -7,13 +8,14 @@ ghost use Rattle.bean_queue.specs.Calls.{HasObeyed};
 use crate::laws::one_holder;
 use crate::logic::Logic;
 use crate::logic::staying::Listed;
-use crate::quiet::{is_quiet, lists_tubes};
+use crate::quiet::{is_quiet, lists_tubes, only_reports};
 use crate::scan_jobs::ScanJobs;
 use bean_words::{Names, Op, Reply};
 use job_store::{JobMap, Jobs};
 use object::{Act, Answer, Command, Key, Object};
 use std::alloc::{AllocError, Global};
 use std::marker::Model;
+use std::mem::replace;
 
 /// The work queue over a map of jobs. A command that is obeyed leaves no job that a waiting session may have.
 #[derive(Drop)]
@@ -22,6 +24,8 @@ pub struct QueueOver<M: JobMap> {
     logic: Logic<M>,
     /// The answers of the command that is obeyed, until they are handed out. The list is kept for its room.
     answers: Vec<Answer<Reply>>,
+    /// The answers that nobody is to have. The list is kept for its room.
+    unheard: Vec<Answer<Reply>>,
     /// The names of all tubes, where they were listed and no tube has come or gone since.
     listed: Option<Names>,
 }
@@ -203,6 +207,30 @@ impl<M: JobMap> QueueOver<M> {
         self.logic.keep();
         Ok(())
     }
+
+    /// Obeys an operation that only reports, and answers nobody.
+    fn obey_report(&mut self, key: Key, op: &Op) -> Result<(), AllocError>
+        requires { only_reports op.now ≡ true }
+        ensures { Becomes result self.old self.new (do_effect op.now key self.old).state }
+    {
+        if let Err(e) = self.logic.obey_report(key, op) {
+            self.logic.take_back();
+            return Err(e);
+        }
+        self.logic.keep();
+        Ok(())
+    }
+
+    /// Obeys a command, and gives its answers to nobody.
+    fn obey_unheard(&mut self, cmd: &Command<Op>) -> Result<(), AllocError>
+        ensures { Becomes result self.old self.new (effect cmd.now self.old).state }
+    {
+        let mut unheard = replace(&mut self.unheard, Vec::new(self.alloc));
+        let obeyed = self.apply(cmd, &mut unheard);
+        unheard.clear();
+        self.unheard = unheard;
+        obeyed
+    }
 }
 
 impl<M: JobMap> Object for QueueOver<M> {
@@ -227,6 +255,7 @@ impl<M: JobMap> Object for QueueOver<M> {
             alloc,
             logic: Logic::new(alloc),
             answers: Vec::new(alloc),
+            unheard: Vec::new(alloc),
             listed: None,
         })
     }
@@ -246,6 +275,14 @@ impl<M: JobMap> Object for QueueOver<M> {
             }
             Act::Close => self.close(key.session, out),
             Act::Tick => self.tick(key.number, out),
+        }
+    }
+
+    #[tactic(auto, unfolding(crate::specs::Effects::effect, crate::specs::Effects::act_effect))]
+    fn obey(&mut self, cmd: &Command<Op>) -> Result<(), AllocError> {
+        match cmd.act() {
+            Act::Do(op) if only_reports(op) => self.obey_report(cmd.key(), op),
+            _ => self.obey_unheard(cmd),
         }
     }
 

@@ -1,5 +1,5 @@
 ghost use Rattle.std.specs.Prelude.{◌≡◌};
-ghost use Rattle.bean_queue.specs.Effects.{is_quiet, lists_tubes};
+ghost use Rattle.bean_queue.specs.Effects.{is_quiet, lists_tubes, only_reports};
 
 use bean_words::Op;
 
@@ -39,4 +39,23 @@ pub(crate) fn lists_tubes(op: &Op) -> bool
     ensures { result ≡ lists_tubes op.now }
 {
     matches!(op, Op::ListTubes | Op::Stats)
+}
+
+/// Whether an operation only reports.
+pub(crate) fn only_reports(op: &Op) -> bool
+    ensures { result ≡ only_reports op.now }
+{
+    matches!(
+        op,
+        Op::Peek(_)
+            | Op::PeekReady
+            | Op::PeekDelayed
+            | Op::PeekBuried
+            | Op::ListTubes
+            | Op::ListTubeUsed
+            | Op::ListTubesWatched
+            | Op::StatsJob(_)
+            | Op::StatsTube(_)
+            | Op::Stats
+    )
 }

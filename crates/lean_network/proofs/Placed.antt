@@ -1,5 +1,5 @@
 -- A node at its place, and what it does.
-use Rattle.std.proofs.Common.{◌≡◌, ℕ, ◌-◌, ◌<◌, true, List, ◌++◌, map, length, Option, None, Some, refl, sym, ap, ◌∙◌, subst, arith}
+use Rattle.std.proofs.Common.{◌≡◌, ℕ, ◌-◌, ◌<◌, true, List, [], ◌++◌, append-nil, map, length, Option, None, Some, refl, sym, ap, ◌∙◌, subst, arith}
 use Rattle.std.specs.Prelude.{slice_index_or, slice_set}
 use Rattle.std.proofs.lemmas.List.{map-set, length-map}
 use Rattle.std.proofs.Math.ListN.{get_or-map}
@@ -58,6 +58,14 @@ module _ {O Op Reply : Type 0} (rules : Rules O Op Reply) where
   turned_state members n h deeds.Propose = refl
   turned_state members n h deeds.Perform = performing_state h (next_decided h.state.replica)
   turned_state members n h deeds.Restart = refl
+
+  -- who performs sends nothing
+  performs_silently : (h : Holding Op O) (o : Option (Command Op)) → (performing_held rules h o).sent ≡ []
+  performs_silently h None = refl
+  performs_silently h (Some c) = refl
+
+  pub nothing_sent : (fresh : List (Letter (Command Op))) (h : Holding Op O) → fresh ≡ fresh ++ (own_turn_held rules h deeds.Perform).sent
+  nothing_sent fresh h = sym (ap (λ z. fresh ++ z) (performs_silently h (next_decided h.state.replica)) ∙ append-nil fresh)
 
   pub turned_sent : (members : List ℕ) (n : ℕ) (h : Holding Op O) (d : Deed Op)
       → (turned_held rules members n h d).sent ≡ (acted rules members n h.state d).sent

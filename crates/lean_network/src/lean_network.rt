@@ -5,6 +5,7 @@ ghost use Rattle.ballot.specs.Members.{is_member};
 ghost use Rattle.ballot.specs.Rests.{rest_of_body};
 ghost use Rattle.ballot.specs.declared.letter.Letter.{Letter};
 ghost use Rattle.ballot.specs.declared.letter.LetterBody.{LetterBody};
+ghost use Rattle.node.specs.declared.deed.Deed.TheVariants as deeds;
 ghost use Rattle.node.specs.Deeds.{IsAble, ComesToNothing};
 ghost use Rattle.node.specs.Holding.{Holding, outcome_held};
 ghost use Rattle.node.specs.Receiving.{IsFit, ShowsReceived};
@@ -119,6 +120,21 @@ impl<O: Object> LeanNetwork<O> {
         ensures idle { ComesToNothing O.rules (lean_node_of O.rules self.old id).state deed → IsOk result }
     {
         let outcome = self.nodes[usize::from(id - 1)].act(deed, &mut self.fresh, answers)?;
+        self.sort_mail();
+        Ok(outcome)
+    }
+
+    /// A node performs the next decided command, and answers nobody. Where none is known it can't be refused memory.
+    pub fn obey(&mut self, id: u8) -> Result<Outcome, AllocError>
+        requires { is_member self.old.members id ≡ true }
+        ensures ok { Becomes result self.old self.new
+            (acted_lean O.rules self.old id deeds.Perform) }
+        ensures outcome { IfOk result (λ outcome. outcome
+            ≡ outcome_held (lean_node_of O.rules self.old id) deeds.Perform) }
+        ensures idle { ComesToNothing O.rules (lean_node_of O.rules self.old id).state deeds.Perform →
+            IsOk result }
+    {
+        let outcome = self.nodes[usize::from(id - 1)].obey()?;
         self.sort_mail();
         Ok(outcome)
     }

@@ -13,6 +13,7 @@ ghost use Rattle.slot_log.specs.Histories.{history};
 ghost use Rattle.replica.specs.CatchingUp.{has_proposed_in_vain};
 ghost use Rattle.replica.specs.Replicas.{proposes_first};
 ghost use Rattle.node.specs.Nodes.{members_of, number_of, new_node, restarted};
+ghost use Rattle.node.specs.declared.deed.Deed.TheVariants as deeds;
 ghost use Rattle.node.specs.Deeds.{said_again, done_if, IsAble, ComesToNothing};
 ghost use Rattle.node.specs.Holding.{new_object, performing_held, own_turn_held, performs_held, outcome_held};
 ghost use Rattle.node.specs.Rests.{rest_of_node};
@@ -300,6 +301,20 @@ impl<O: Object> LeanNode<O> {
             None => Ok(Outcome::Idle),
             Some(performed) => Ok(Outcome::Performed(performed)),
         }
+    }
+
+    /// Performs the next decided command, and answers nobody. For want of memory it changes nothing. Where there is nothing
+    /// to do it takes no memory.
+    pub fn obey(&mut self) -> Result<Outcome, AllocError>
+        ensures state { Becomes result self.old self.new
+            (own_turn_held O.rules self.old deeds.Perform).state }
+        ensures outcome { IfOk result (λ outcome. outcome ≡ outcome_held self.old deeds.Perform) }
+        ensures idle { ComesToNothing O.rules self.old.state deeds.Perform → IsOk result }
+    {
+        Ok(match self.replica.obey()? {
+            None => Outcome::Idle,
+            Some(performed) => Outcome::Performed(performed),
+        })
     }
 
     // Stops, and begins anew with the next boot. The acceptor stays as it is.

@@ -6,11 +6,11 @@ ghost use Rattle.object.specs.OnceOnly.{filtered};
 ghost use Rattle.slot_log.specs.Histories.{history};
 
 use ballot::Slot;
-use object::{Answer, Command, Object, Once};
+use object::{Command, Object, Once};
 use slot_log::SlotLog;
 use std::alloc::{AllocError, Global};
 
-/// A new object that has obeyed the commands of the slots before `slot_out`. What it answered is thrown away.
+/// A new object that has obeyed the commands of the slots before `slot_out`, and answered nobody.
 pub(crate) fn obeying<O: Object>(
     alloc: Global,
     slots: &SlotLog<Command<O::Op>>,
@@ -18,26 +18,20 @@ pub(crate) fn obeying<O: Object>(
     ensures { IfOk result (λ object. object ≡ obeyed O.rules (history slots.now)) }
 {
     let mut object = Once::new(alloc)?;
-    let mut answers = Vec::new(alloc);
     for number in 1..slots.slot_out() {
         let slot = Slot::new(number).unwrap();
-        obey(slots.decision(slot), &mut object, &mut answers)?;
-        answers.clear();
+        obey(slots.decision(slot), &mut object)?;
     }
     Ok(object)
 }
 
 // The object obeys the command, if there is one.
-fn obey<O: Object>(
-    command: Option<&Command<O::Op>>,
-    object: &mut Once<O>,
-    answers: &mut Vec<Answer<O::Reply>>,
-) -> Result<(), AllocError>
+fn obey<O: Object>(command: Option<&Command<O::Op>>, object: &mut Once<O>) -> Result<(), AllocError>
     ensures { OnOk result (object.new
         ≡ fold (filtered O.rules.after) object.old (option_to_list (option_copied command.entry))) }
 {
     if let Some(command) = command {
-        object.apply(command, answers)?;
+        object.obey(command)?;
     }
     Ok(())
 }

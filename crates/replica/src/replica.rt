@@ -1,4 +1,4 @@
-ghost use Rattle.std.specs.Prelude.{◌≡◌, ◌↔◌, ◌<◌, ◌≤◌, true, None, Some, Ok, is_some, map, IfOk, IfSome, IsOk, IsErrOf};
+ghost use Rattle.std.specs.Prelude.{◌≡◌, ◌↔◌, ◌<◌, ◌≤◌, ◌^◌, true, None, Some, Ok, is_some, IsSome, map, IfOk, IfSome, IsOk, IsErrOf};
 ghost use Rattle.std.specs.Option.{option_map};
 ghost use Rattle.std.specs.FinMap.{empty, get, contains_key};
 ghost use Rattle.ballot.specs.Members.{is_member};
@@ -12,6 +12,7 @@ ghost use Rattle.slot_log.specs.Books.{new_book};
 ghost use Rattle.slot_log.specs.Requests.{is_known, requested};
 ghost use Rattle.slot_log.specs.Proposals.{next_proposal, proposed_next};
 ghost use Rattle.slot_log.specs.Decisions as deciding;
+ghost use Rattle.slot_log.specs.Advances.{advanced};
 ghost use Rattle.slot_log.specs.Histories.{history};
 ghost use Rattle.slot_log.specs.Rests.{rest_of_book};
 ghost use Rattle.slot_log.specs.CatchingUp.{book_from};
@@ -21,7 +22,7 @@ ghost use Rattle.replica.specs.Replicas.{but_last, proposes_first, tells, nudges
 use crate::obeying::obeying;
 use crate::performed::Performed;
 use ballot::{Letter, LetterBody, Members, Slot, send_to_all};
-use object::{Answer, Command, Key, Object, Once, Value};
+use object::{Answer, Command, Effect, Key, Object, Once, Value};
 use slot_log::{LearnError, SlotLog};
 use std::alloc::{AllocError, Global};
 use std::marker::Model;
@@ -61,8 +62,7 @@ impl<O: Object> Replica<O> {
         })
     }
 
-    /// A replica with these slots. A new object obeys again the commands of the slots before `slot_out`; its answers are
-    /// thrown away.
+    /// A replica with these slots. A new object obeys again the commands of the slots before `slot_out`, and answers nobody.
     pub fn of(alloc: Global, slots: SlotLog<Command<O::Op>>) -> Result<Replica<O>, AllocError>
         ensures slots { IfOk result (λ r. r.slots ≡ slots) }
         ensures object { IfOk result (λ r. r.object ≡ obeyed O.rules (history slots)) }
@@ -276,9 +276,45 @@ impl<O: Object> Replica<O> {
         };
         let key = command.key();
         let effect = self.object.apply(command, out)?;
+        Ok(Some(self.leave_slot(key, effect)))
+    }
+
+    /// Gives the command of `slot_out`, where it is known, to the object, which answers nobody. For want of memory nothing
+    /// is changed.
+    pub fn obey(&mut self) -> Result<Option<Performed>, AllocError>
+        ensures slot { IfOk result (λ done. IfSome done (λ p. p.slot
+            ≡ self.old.slots.slot_out)) }
+        ensures key { IfOk result (λ done. option_map (λ p. p.key) done
+            ≡ option_map (λ c. c.key) (deciding.next_decided self.old.slots)) }
+        ensures effect { IfOk result (λ done. IfSome done (λ p. (p.effect
+            ≡ Effect.Done) ↔ (is_later p.key self.old.object.latest ≡ true))) }
+        ensures state { Becomes result self.old self.new
+            (performed (same_commands O.Op.eq) O.rules.after self.old) }
+        ensures idle { deciding.next_decided self.old.slots ≡ None → result ≡ Ok None }
+    {
+        match self.slots.next_decided() {
+            None => Ok(None),
+            Some(command) => {
+                let key = command.key();
+                let effect = self.object.obey(command)?;
+                Ok(Some(self.leave_slot(key, effect)))
+            }
+        }
+    }
+
+    // Its object has obeyed the decision of `slot_out`, and it goes on at the next slot.
+    fn leave_slot(&mut self, key: Key, effect: Effect) -> Performed
+        requires decided { IsSome (deciding.next_decided self.old.slots) }
+        requires numbered { self.old.slots.slot_out ≤ 2 ^ 62 }
+        ensures done { result
+            ≡ record { slot = self.old.slots.slot_out; key = key; effect = effect } }
+        ensures state { self.new ≡ record self.old {
+          slots = advanced (same_commands O.Op.eq) self.old.slots;
+        } }
+    {
         let slot = Slot::new(self.slots.slot_out()).unwrap();
         self.slots.advance();
-        Ok(Some(Performed { slot, key, effect }))
+        Performed { slot, key, effect }
     }
 
     /// Asks all leaders again for what is proposed, and the other members for what is decided.

@@ -141,24 +141,24 @@ listing-cases (Op.StatsJob id) e = absurd (true≢false (sym e))
 listing-cases (Op.StatsTube tube) e = absurd (true≢false (sym e))
 
 -- the operation is quiet, needs no number, and leaves the state as it was called
-pub record IsListing (op : Op) : Type 0 where
+pub record OnlyReports (op : Op) : Type 0 where
   pub quiet : is_quiet op ≡ true
   pub numbered : (s : QueueState) → has_no_number op s ≡ false
   pub stays : (key : Key) (s : QueueState) → (row op key s).state ≡ s
 
-listing : IsListing Op.ListTubes
+listing : OnlyReports Op.ListTubes
 unfolding row
 listing = record { quiet = refl; numbered = λ s. refl; stays = λ key s. refl }
 
-counting : IsListing Op.Stats
+counting : OnlyReports Op.Stats
 unfolding row stats_row
 counting = record { quiet = refl; numbered = λ s. refl; stays = λ key s. refl }
 
-pub is-listing : (op : Op) → lists_tubes op ≡ true → IsListing op
+pub is-listing : (op : Op) → lists_tubes op ≡ true → OnlyReports op
 is-listing op lists =
-    elim (listing-cases op lists) as (λ v. IsListing op) [
-      | inl same ↦ subst IsListing (sym same) listing
-      | inr same ↦ subst IsListing (sym same) counting
+    elim (listing-cases op lists) as (λ v. OnlyReports op) [
+      | inl same ↦ subst OnlyReports (sym same) listing
+      | inr same ↦ subst OnlyReports (sym same) counting
     ]
 
 pub listing-effect : (op : Op) (key : Key) (s : QueueState) → lists_tubes op ≡ true → do_effect op key s ≡ carried_out op key s

@@ -1,9 +1,9 @@
-ghost use Rattle.std.specs.Prelude.{◌≡◌, true, false, None, Some, IsSome, IfOk};
+ghost use Rattle.std.specs.Prelude.{◌≡◌, true, false, None, Some, IsSome, IfOk, OnOk};
 ghost use Rattle.object.specs.declared.command.Key.{Key};
 ghost use Rattle.job_store.specs.Entries.{value_at};
 ghost use Rattle.bean_queue.specs.Rows.{row};
 ghost use Rattle.bean_queue.specs.Turns.{serve_turn};
-ghost use Rattle.bean_queue.specs.Effects.{has_no_number, carried_out, do_effect, is_quiet, lists_tubes};
+ghost use Rattle.bean_queue.specs.Effects.{has_no_number, carried_out, do_effect, is_quiet, lists_tubes, only_reports};
 ghost use Rattle.bean_queue.specs.Calls.{CanObey, CanCarryOut, CanWake, DoesRow, DoesQuietly, DraftsRow, DraftsOutcome};
 ghost use Rattle.bean_queue.specs.Reserving.{wake_outcome};
 ghost use Rattle.bean_queue.specs.Tubes.{all_tubes};
@@ -119,6 +119,18 @@ impl<M: JobMap> Logic<M> {
     {
         self.call(key.session, op)?;
         self.listing_row(alloc, op, names)
+    }
+
+    /// Obeys an operation that only reports, where nothing is left to give, and answers nobody: its session is there, and
+    /// it is counted. No tube comes or goes.
+    pub fn obey_report(&mut self, key: Key, op: &Op) -> Result<(), AllocError>
+        requires reports { only_reports op.now ≡ true }
+        requires calm { serve_turn self.old.now ≡ None }
+        ensures state { OnOk result (self.new.now ≡ (do_effect op.now key self.old.now).state) }
+        ensures tubes { OnOk result (all_tubes self.new.now ≡ all_tubes self.old.now) }
+        ensures before { self.new.before ≡ self.old.before }
+    {
+        self.call(key.session, op)
     }
 
     /// Obeys an operation that may make jobs ready, of a session that is there, where a number is left for it, but for

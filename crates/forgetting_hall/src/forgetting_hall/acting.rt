@@ -1,6 +1,9 @@
-ghost use Rattle.std.specs.Prelude.{◌≡◌, None, IsOk, IfOk, OnOk};
-ghost use Rattle.node.specs.Deeds.{ComesToNothing};
-ghost use Rattle.lean_network.specs.LeanNetworks.{lean_node_of};
+ghost use Rattle.std.specs.Prelude.{◌≡◌, ◌++◌, true, None, IsOk, IfOk, OnOk};
+ghost use Rattle.object.specs.Results.{Becomes};
+ghost use Rattle.ballot.specs.Members.{is_member};
+ghost use Rattle.node.specs.Deeds.{IsAble, ComesToNothing};
+ghost use Rattle.node.specs.Holding.{outcome_held};
+ghost use Rattle.lean_network.specs.LeanNetworks.{lean_node_of, lean_turn_of, acted_lean};
 ghost use Rattle.agreement.specs.Events.{event_of};
 ghost use Rattle.hall.specs.Refusals.{Refuses};
 ghost use Rattle.forgetting_hall.specs.Effects.{placed_by};
@@ -15,8 +18,10 @@ use super::noting::note;
 use crate::halls::halls_rest;
 use agreement::every_world;
 use hall::HallError;
+use lean_network::LeanNetwork;
 use node::{Deed, Outcome};
 use object::{Answer, Object};
+use std::alloc::AllocError;
 
 impl<O: Object> ForgettingHall<O> {
     /// A node does something by itself: it wakes, nudges, proposes or performs. What it answers is told to the clients, where
@@ -44,7 +49,7 @@ impl<O: Object> ForgettingHall<O> {
         let placed = self.copy_placed(node, &deed)?;
         make_room(&mut self.gathered, &placed)?;
         let mut given = Vec::new(self.alloc);
-        let outcome = self.network.act(node, deed, &mut given)?;
+        let outcome = act_afresh(&mut self.network, self.reach, node, deed, &mut given)?;
         let fresh = fresh_of(&outcome, self.reach, given);
         // who can't be noted for want of memory is left out
         let _ = note(&mut self.answered, fresh.as_slice());
@@ -54,6 +59,30 @@ impl<O: Object> ForgettingHall<O> {
         self.taken += 1;
         put(&mut self.gathered, placed);
         Ok(outcome)
+    }
+}
+
+// A node does this, and appends what it answers. Of a slot that some node has performed before it answers nobody.
+fn act_afresh<O: Object>(
+    network: &mut LeanNetwork<O>,
+    reach: u64,
+    node: u8,
+    deed: Deed<O::Op>,
+    given: &mut Vec<Answer<O::Reply>>,
+) -> Result<Outcome, AllocError>
+    requires member { is_member network.old.members node ≡ true }
+    requires able { IsAble (lean_node_of O.rules network.old node).state deed }
+    ensures ok { Becomes result network.old network.new (acted_lean O.rules network.old node deed) }
+    ensures fresh { IfOk result (λ outcome. fresh_answers reach outcome given.new.items
+        ≡ fresh_answers reach outcome (given.old.items
+        ++ (lean_turn_of O.rules network.old node deed).answers)) }
+    ensures outcome { IfOk result (λ outcome. outcome
+        ≡ outcome_held (lean_node_of O.rules network.old node) deed) }
+    ensures idle { ComesToNothing O.rules (lean_node_of O.rules network.old node).state deed → IsOk result }
+{
+    match deed {
+        Deed::Perform if network.node(node).slots().slot_out() <= reach => network.obey(node),
+        other => network.act(node, other, given),
     }
 }
 

@@ -59,6 +59,13 @@ impl<const REFUSALS: u64> Object for Reluctant<REFUSALS> {
         self.register.apply(cmd, out)
     }
 
+    fn obey(&mut self, cmd: &Command<RegisterOp>) -> Result<(), AllocError> {
+        if self.tries.fetch_add(1, Ordering::SeqCst) < REFUSALS {
+            return Err(AllocError);
+        }
+        self.register.obey(cmd)
+    }
+
     fn keeps_promise() {}
 
     ghost use Rattle.std.proofs.Common.{inl};

@@ -1,4 +1,4 @@
-//! That both queues answer alike, whatever is drawn for them.
+//! That both queues answer alike, whatever is drawn for them, also where they answer nobody in between.
 ghost use Rattle.std.specs.Prelude.{◌<◌};
 
 use bean_queue::{PlainQueue, Queue};
@@ -143,6 +143,33 @@ fn answers_of<O: Object<Op = Op, Reply = Reply>>(
     Ok(answers)
 }
 
+/// What is answered to the later half of the list of a seed, where nobody is answered before.
+fn later_answers_of<O: Object<Op = Op, Reply = Reply>>(
+    alloc: Global,
+    seed: u64,
+) -> Result<Vec<Answer<Reply>>, Fail> {
+    let mut draws = Draws::new(seed);
+    let mut queue: Once<O> = Once::new(alloc)?;
+    let mut answers = Vec::new(alloc);
+    for place in 1..=COMMANDS {
+        let command = draws.command(alloc, place)?;
+        if place <= COMMANDS / 2 {
+            queue.obey(&command)?;
+        } else {
+            queue.apply(&command, &mut answers)?;
+        }
+    }
+    Ok(answers)
+}
+
+/// Whether these are the last of all answers, and some.
+fn end(all: &[Answer<Reply>], last: &[Answer<Reply>]) -> bool {
+    match all.len().checked_sub(last.len()) {
+        Some(before) => !last.is_empty() && &all[before..] == last,
+        None => false,
+    }
+}
+
 /// Whether a session was given a job.
 fn gives(answers: &[Answer<Reply>]) -> bool {
     answers
@@ -159,6 +186,18 @@ fn both_queues_answer_alike(rt: HostRuntime) -> Result<(), Fail> {
             plain == answers_of::<Queue>(rt.alloc(), seed)?,
             "seed {seed}"
         );
+    }
+    Ok(())
+}
+
+#[test]
+fn who_answers_nobody_obeys_alike(rt: HostRuntime) -> Result<(), Fail> {
+    for seed in 0..200 {
+        let all = answers_of::<Queue>(rt.alloc(), seed)?;
+        let last = later_answers_of::<Queue>(rt.alloc(), seed)?;
+        let plain = later_answers_of::<PlainQueue>(rt.alloc(), seed)?;
+        assert!(rt; end(all.as_slice(), last.as_slice()), "seed {seed}");
+        assert!(rt; last == plain, "seed {seed}");
     }
     Ok(())
 }

@@ -67,6 +67,13 @@ impl Object for Reluctant {
         self.queue.apply(cmd, out)
     }
 
+    fn obey(&mut self, cmd: &Command<Op>) -> Result<(), AllocError> {
+        if self.tries.fetch_add(1, Ordering::SeqCst) < REFUSALS {
+            return Err(AllocError);
+        }
+        self.queue.obey(cmd)
+    }
+
     fn keeps_promise() {
         Queue::keeps_promise();
     }

@@ -30,9 +30,8 @@ hear-requires g c =
     subst (λ q. refusal_of_event q c.args.node ≡ None) (sym c.self.view_is) (sym c.refusal_of_event.ensures ∙ c.in_default.is) in
     let fresh : c.fresh_of-fresh.result.items ≡ fresh_answers h.reach c.in_ok-outcome.outcome (lean_turn_of g.O.Object.rules h.network
     c.args.node c.args.deed).answers =
-    c.fresh_of-fresh.ensures ∙ ap (fresh_answers h.reach c.in_ok-outcome.outcome)
-    (c.in_ok-outcome.ensures.answers.0
-    ∙ ap (λ xs. xs ++ (lean_turn_of g.O.Object.rules h.network c.args.node c.args.deed).answers) c.new-given.ensures.items) in
+    c.fresh_of-fresh.ensures ∙ c.in_ok-outcome.ensures.fresh ∙ ap (fresh_answers h.reach c.in_ok-outcome.outcome)
+    (ap (λ xs. xs ++ (lean_turn_of g.O.Object.rules h.network c.args.node c.args.deed).answers) c.new-given.ensures.items) in
     record {
       room = subst (λ xs. h.summary.answered + length xs < 2 ^ 64)
           (sym (fresh ∙ ap (λ o. fresh_answers h.reach o (lean_turn_of g.O.Object.rules h.network c.args.node c.args.deed).answers)
@@ -57,11 +56,10 @@ invariant_of-self-2 g c =
     subst (λ q. refusal_of_event q c.args.node ≡ None) (sym c.self.view_is) (sym c.refusal_of_event.ensures ∙ c.in_default.is) in
     let fresh : c.fresh_of-fresh.result.items ≡ fresh_answers h.reach c.in_ok-outcome.outcome (lean_turn_of g.O.Object.rules h.network
     c.args.node c.args.deed).answers =
-    c.fresh_of-fresh.ensures ∙ ap (fresh_answers h.reach c.in_ok-outcome.outcome)
-    (c.in_ok-outcome.ensures.answers.0
-    ∙ ap (λ xs. xs ++ (lean_turn_of g.O.Object.rules h.network c.args.node c.args.deed).answers) c.new-given.ensures.items) in
+    c.fresh_of-fresh.ensures ∙ c.in_ok-outcome.ensures.fresh ∙ ap (fresh_answers h.reach c.in_ok-outcome.outcome)
+    (ap (λ xs. xs ++ (lean_turn_of g.O.Object.rules h.network c.args.node c.args.deed).answers) c.new-given.ensures.items) in
     let now : Gathering _ = record { is_on = c.self.inside.gathers; commands = c.put.new.gathered.items } in
-    let became = deed_became g.O.Object.rules h c.args.node c.args.deed c.act.new.self c.in_ok-outcome.outcome c.fresh_of-fresh.result.items c.hear.new.self
+    let became = deed_became g.O.Object.rules h c.args.node c.args.deed c.act_afresh.new.network c.in_ok-outcome.outcome c.fresh_of-fresh.result.items c.hear.new.self
     c.place.new.self c.key_placed.result c.reach_after-self-inside.result now c.in_ok-outcome.ensures.ok.0 c.in_ok-outcome.ensures.outcome fresh c.hear.ensures
     c.key_placed.ensures c.place.ensures c.reach_after-self-inside.ensures in
     subst (IsForgettingHall g.O.Object.rules) (sym became)
@@ -102,11 +100,10 @@ returns-clause-ok g c =
     subst (λ q. refusal_of_event q c.args.node ≡ None) (sym c.self.view_is) (sym c.refusal_of_event.ensures ∙ c.in_default.is) in
     let fresh : c.fresh_of-fresh.result.items ≡ fresh_answers h.reach c.in_ok-outcome.outcome (lean_turn_of g.O.Object.rules h.network
     c.args.node c.args.deed).answers =
-    c.fresh_of-fresh.ensures ∙ ap (fresh_answers h.reach c.in_ok-outcome.outcome)
-    (c.in_ok-outcome.ensures.answers.0
-    ∙ ap (λ xs. xs ++ (lean_turn_of g.O.Object.rules h.network c.args.node c.args.deed).answers) c.new-given.ensures.items) in
+    c.fresh_of-fresh.ensures ∙ c.in_ok-outcome.ensures.fresh ∙ ap (fresh_answers h.reach c.in_ok-outcome.outcome)
+    (ap (λ xs. xs ++ (lean_turn_of g.O.Object.rules h.network c.args.node c.args.deed).answers) c.new-given.ensures.items) in
     let now : Gathering _ = record { is_on = c.self.inside.gathers; commands = c.put.new.gathered.items } in
-    let became = deed_became g.O.Object.rules h c.args.node c.args.deed c.act.new.self c.in_ok-outcome.outcome c.fresh_of-fresh.result.items c.hear.new.self
+    let became = deed_became g.O.Object.rules h c.args.node c.args.deed c.act_afresh.new.network c.in_ok-outcome.outcome c.fresh_of-fresh.result.items c.hear.new.self
     c.place.new.self c.key_placed.result c.reach_after-self-inside.result now c.in_ok-outcome.ensures.ok.0 c.in_ok-outcome.ensures.outcome fresh c.hear.ensures
     c.key_placed.ensures c.place.ensures c.reach_after-self-inside.ensures in
     ap (rest_of_hall g.O.Object.rules) became
@@ -130,15 +127,14 @@ returns-clause-event g c =
     subst (λ q. refusal_of_event q c.args.node ≡ None) (sym c.self.view_is) (sym c.refusal_of_event.ensures ∙ c.in_default.is) in
     let fresh : c.fresh_of-fresh.result.items ≡ fresh_answers h.reach c.in_ok-outcome.outcome (lean_turn_of g.O.Object.rules h.network
     c.args.node c.args.deed).answers =
-    c.fresh_of-fresh.ensures ∙ ap (fresh_answers h.reach c.in_ok-outcome.outcome)
-    (c.in_ok-outcome.ensures.answers.0
-    ∙ ap (λ xs. xs ++ (lean_turn_of g.O.Object.rules h.network c.args.node c.args.deed).answers) c.new-given.ensures.items) in
+    c.fresh_of-fresh.ensures ∙ c.in_ok-outcome.ensures.fresh ∙ ap (fresh_answers h.reach c.in_ok-outcome.outcome)
+    (ap (λ xs. xs ++ (lean_turn_of g.O.Object.rules h.network c.args.node c.args.deed).answers) c.new-given.ensures.items) in
     let now : Gathering _ = record { is_on = c.self.inside.gathers; commands = c.put.new.gathered.items } in
-    let became = deed_became g.O.Object.rules h c.args.node c.args.deed c.act.new.self c.in_ok-outcome.outcome c.fresh_of-fresh.result.items c.hear.new.self
+    let became = deed_became g.O.Object.rules h c.args.node c.args.deed c.act_afresh.new.network c.in_ok-outcome.outcome c.fresh_of-fresh.result.items c.hear.new.self
     c.place.new.self c.key_placed.result c.reach_after-self-inside.result now c.in_ok-outcome.ensures.ok.0 c.in_ok-outcome.ensures.outcome fresh c.hear.ensures
     c.key_placed.ensures c.place.ensures c.reach_after-self-inside.ensures in
     subst (λ q. FollowsIn g.O.Object.rules q (event_of c.args.node c.args.deed) (record h {
-      network = c.act.new.self;
+      network = c.act_afresh.new.network;
       summary = c.place.new.self;
       reach = c.reach_after-self-inside.result;
       taken = h.taken + 1;
