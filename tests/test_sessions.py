@@ -6,12 +6,8 @@ from client import Client, Job
 from harness import Case, wait_until
 
 
-class Successors(Case):
-    """One client after the other on three nodes, of which each may have the session of an earlier one."""
-
-    longest = 900
-
-    seconds = 40
+class Followed(Case):
+    """A test whose clients come one after the other."""
 
     def begin(self, *words: object) -> Client:
         """Starts a server, and answers a client that stays."""
@@ -28,6 +24,24 @@ class Successors(Case):
         self.assertEqual(client.list_tube_used(), "default")
         client.is_told(f"touch {held}", "NOT_FOUND")
         self.assertIsNone(client.reserve_with_timeout(0))
+
+    def quit(self, client: Client) -> None:
+        client.send(b"quit\r\n")
+        client.expect_end()
+        client.close()
+
+    def close_asking(self, client: Client) -> None:
+        """Goes without the answers to what it asked."""
+        client.send(b"list-tubes\r\n" * 20)
+        client.close()
+
+
+class Successors(Followed):
+    """One client after the other on three nodes, of which each may have the session of an earlier one."""
+
+    longest = 900
+
+    seconds = 40
 
     def generations(self, count: int, leave: Callable[[int, Client], None]) -> Job:
         """So many clients, one after the other: each is like new, watches a tube, gets the job that the one before held, and
@@ -73,16 +87,6 @@ class Successors(Case):
         self.assertEqual(last.reserve(), job)
         last.delete(job.id)
         self.assertIsNone(last.reserve_with_timeout(0))
-
-    def quit(self, client: Client) -> None:
-        client.send(b"quit\r\n")
-        client.expect_end()
-        client.close()
-
-    def close_asking(self, client: Client) -> None:
-        """Goes without the answers to what it asked."""
-        client.send(b"list-tubes\r\n" * 20)
-        client.close()
 
     def reset_waiting(self, client: Client) -> None:
         """Goes while it waits for another job."""
@@ -131,29 +135,94 @@ class Successors(Case):
         self.assertEqual([last.reserve().id for _ in jobs], jobs)
         self.assertEqual(last.list_tubes_watched(), ["default"])
 
-    def test_each_has_a_session_of_its_own_in_the_log(self):
-        """With a log no session goes on behind its end, and a server that starts from it goes on with what is left."""
-        staying = self.begin("--log", "jobs.log")
-        staying.use("work")
-        job = staying.put(b"hello")
-        for _ in range(100):
-            client = self.next()
-            client.watch("work")
-            self.assertEqual(client.reserve(), (job, b"hello"))
-            client.close()
-        self.server.kill()
-        self.assertEqual(self.sessions_behind_an_end(), [])
-        client = self.client(self.serve("--log", "jobs.log"))
-        client.watch("work")
-        self.assertEqual(client.reserve(), (job, b"hello"))
 
-    def sessions_behind_an_end(self) -> list[str]:
-        """The sessions of the log that go on behind their end."""
-        ended, found = set(), []
-        for line in (self.folder / "jobs.log").read_text(encoding="ascii").splitlines()[1:]:
-            session, _, act = line.split(" ")[:3]
-            if session in ended:
+class Logged(Followed):
+    """The same at servers that have a log, one after the other."""
+
+    def come_and_go(self, jobs: dict[int, bytes], number: int) -> None:
+        """A client that is like new gets one of the jobs, watches a tube, and leaves."""
+        ways = (Client.close, Client.reset, self.quit, self.close_asking)
+        client = self.next()
+        self.assertEqual(client.list_tubes_watched(), ["default"])
+        job = client.reserve()
+        self.assertEqual(job.body, jobs[job.id])
+        client.watch(f"tube-{number % 10}")
+        ways[number % len(ways)](client)
+
+    def test_sessions_go_on_behind_their_ends_in_the_log(self):
+        """Five servers are killed one after the other while clients hold a job and wait for one: in the log sessions go on
+        behind their ends, and each server goes on with the jobs that the last one left."""
+        jobs = {}
+        for server in range(5):
+            staying = self.begin("--log", "jobs.log")
+            for body in (b"a of %d" % server, b"b of %d" % server):
+                jobs[staying.put(body)] = body
+            for number in range(40):
+                self.come_and_go(jobs, number)
+            holding, waiting = self.client(self.server), self.client(self.server)
+            deleted = holding.reserve().id
+            holding.delete(deleted)
+            del jobs[deleted]
+            holding.reserve()
+            waiting.send(b"watch empty\r\nignore default\r\nreserve\r\n")
+            waiting.expect(b"WATCHING 2\r\nWATCHING 1\r\n")
+            self.server.kill()
+        self.assertGreater(len(self.followed_ends()), 50)
+        self.assertLess(len({session for session, _, _ in self.commands()}), 100)
+        client = self.begin("--log", "jobs.log")
+        left = [client.reserve() for _ in jobs]
+        self.assertEqual({job.id: job.body for job in left}, jobs)
+
+    def test_the_numbers_of_a_session_rise(self):
+        """In a log each command of a session has a greater number than the last one, also behind its end."""
+        job = self.begin("--log", "jobs.log").put(b"x")
+        for number in range(30):
+            self.come_and_go({job: b"x"}, number)
+        self.server.kill()
+        self.assertGreater(len(self.followed_ends()), 20)
+        newest: dict[str, int] = {}
+        for session, number, _ in self.commands():
+            self.assertGreater(number, newest.get(session, 0))
+            newest[session] = number
+
+    def test_no_dump_of_a_log_whose_sessions_go_on(self):
+        """A start with --dump from such a log is refused and told why, and the log is left as it is."""
+        job = self.begin("--log", "jobs.log").put(b"x")
+        for number in range(10):
+            self.come_and_go({job: b"x"}, number)
+        self.server.kill()
+        log = self.folder / "jobs.log"
+        before = log.read_bytes()
+        ended = self.refused("--log", "jobs.log", "--dump", "run.dump")
+        self.assert_fault(ended, "13 file failed")
+        self.assert_reason(ended, "jobs.log", "a server that uses session numbers again wrote the log; start without --dump")
+        self.assertEqual(log.read_bytes(), before)
+        self.assertEqual(self.begin("--log", "jobs.log").reserve(), (job, b"x"))
+
+    def test_each_has_a_session_of_its_own_beside_a_dump(self):
+        """With --log and --dump no session goes on behind its end, and a server goes on from that log with both."""
+        jobs = {}
+        for _ in range(2):
+            staying = self.begin("--log", "jobs.log", "--dump", "run.dump", "--sessions", 1000)
+            jobs[staying.put(b"x")] = b"x"
+            for number in range(20):
+                self.come_and_go(jobs, number)
+            self.server.kill()
+        self.assertEqual(self.followed_ends(), [])
+        client = self.begin("--log", "jobs.log")
+        self.assertEqual({client.reserve().id for _ in jobs}, set(jobs))
+
+    def commands(self) -> list[tuple[str, int, str]]:
+        """The session, the number and the act of each command in the log, but those of the clock."""
+        lines = (self.folder / "jobs.log").read_text(encoding="ascii").splitlines()[1:]
+        found = [line.split(" ")[:3] for line in lines]
+        return [(session, int(number), act) for session, number, act in found if session != "0"]
+
+    def followed_ends(self) -> list[str]:
+        """The sessions of the ends in the log behind which their session goes on."""
+        found, later = [], set()
+        for session, _, act in reversed(self.commands()):
+            if act == "close" and session in later:
                 found.append(session)
-            if act == "close":
-                ended.add(session)
+            later.add(session)
         return found

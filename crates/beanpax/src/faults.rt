@@ -113,6 +113,7 @@ impl From<StartFault> for ProgramFault {
             StartFault::Unopened(fault) => ProgramFault::from(fault),
             StartFault::Unobeyed(RecoverFault::OutOfMemory) => ProgramFault::OutOfMemory,
             StartFault::Unobeyed(RecoverFault::NoOrder) => ProgramFault::LogDamaged(1),
+            StartFault::Unobeyed(RecoverFault::UsedAgain) => ProgramFault::FileFailed,
             StartFault::Unkept(fault) => ProgramFault::from(fault),
         }
     }

@@ -1,10 +1,13 @@
-ghost use Rattle.std.specs.Prelude.{◌≡◌, ◌++◌, false, IfOk};
+ghost use Rattle.std.specs.Prelude.{◌≡◌, ◌⊎◌, ◌++◌, [], true, false, Err, IfOk};
 ghost use Rattle.hall.specs.Halls.{has_unplaced};
 ghost use Rattle.recorder.specs.Records.{commands_from};
 ghost use Rattle.recovery.specs.Clocks.{last_second_in};
 ghost use Rattle.recovery.specs.Opened.{EndsAll};
+ghost use Rattle.recovery.specs.UsedAgain.{uses_again};
+ghost use Rattle.recovery.specs.declared.fault.RecoverFault.TheVariants.{OutOfMemory, UsedAgain};
 ghost use Rattle.beanpax.specs.Program.{WritesMore};
 ghost use Rattle.beanpax.specs.Restorings.{IsRestored};
+ghost use Rattle.beanpax.specs.declared.start_fault.StartFault.TheVariants.{Unobeyed};
 
 use crate::host::Host;
 use crate::start_fault::StartFault;
@@ -26,7 +29,8 @@ pub(crate) struct Restored<W> {
     pub(crate) journal: Journal<W>,
 }
 
-/// Does as `start_from` with a hall that keeps all: for a server that is to write a dump of all that its log has.
+/// Does as `start_from` with a hall that keeps all: for a server that is to write a dump of all that its log has. A log in
+/// which a session goes on behind its end is refused.
 pub(crate) fn restore_from<R: Host, E: ByteOut, W: Durable + Drop>(
     rt: &R,
     members: Members,
@@ -34,6 +38,8 @@ pub(crate) fn restore_from<R: Host, E: ByteOut, W: Durable + Drop>(
     errors: &mut E,
 ) -> Result<Restored<W>, StartFault>
     ensures restored { IfOk result (IsRestored W.contents members opened) }
+    ensures again { uses_again [] opened.commands.items ≡ true →
+        (result ≡ Err (Unobeyed UsedAgain)) ⊎ (result ≡ Err (Unobeyed OutOfMemory)) }
     ensures more { WritesMore E.ByteOut errors.old errors.new }
 {
     let OpenedLog { log, commands, .. } = opened;
@@ -66,9 +72,11 @@ fn obey_keeping<R: Host, E: ByteOut, O: Object>(
     ensures ends { IfOk result (λ r. EndsAll commands.now r.closes.items) }
     ensures settled { IfOk result (λ r. has_unplaced r.hall ≡ false) }
     ensures second { IfOk result (λ r. r.hall.second ≡ last_second_in commands.now) }
+    ensures again { uses_again [] commands.now ≡ true →
+        (result ≡ Err (Unobeyed UsedAgain)) ⊎ (result ≡ Err (Unobeyed OutOfMemory)) }
     ensures more { WritesMore E.ByteOut errors.old errors.new }
 {
-    let mut recovery = KeepingRecovery::begin(rt.alloc(), members)?;
+    let mut recovery = KeepingRecovery::begin(rt.alloc(), members, commands)?;
     let mut since = Instant::now(rt).ok();
     for done in 0..commands.len() {
         recovery.obey(&commands[done])?;

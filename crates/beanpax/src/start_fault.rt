@@ -24,6 +24,13 @@ impl From<OpenFault> for StartFault {
 }
 
 impl From<RecoverFault> for StartFault {
+    ghost use Rattle.std.specs.Prelude.{◌≡◌};
+    ghost use Rattle.recovery.specs.declared.fault.RecoverFault.{RecoverFault};
+    ghost use Rattle.beanpax.specs.declared.start_fault.StartFault.{StartFault};
+    ghost use Rattle.beanpax.specs.declared.start_fault.StartFault.TheVariants.{Unobeyed};
+
+    ghost from_gives = { λ f s. s ≡ Unobeyed f };
+
     fn from(fault: RecoverFault) -> StartFault {
         StartFault::Unobeyed(fault)
     }

@@ -1,7 +1,8 @@
 -- How many commands were taken of a hall for its log.
-use Rattle.std.proofs.Common.{◌≡◌, ◌≤◌, ◌+◌, ◌++◌, ℕ, Bool, true, false, if◌then◌else◌, List, [], length, refl, sym, ap, subst, ◌∙◌, length-append, arith}
+use Rattle.std.proofs.Common.{◌≡◌, ◌≤◌, ◌+◌, ◌++◌, ℕ, Bool, true, false, if◌then◌else◌, List, [], length, refl, sym, ap, subst, ◌∙◌, length-append, append-nil, arith}
 use Rattle.object.specs.Objects.{Rules}
 use Rattle.object.specs.declared.command.Command.{Command}
+use Rattle.forgetting_hall.specs.Gathered.{Gathering}
 use Rattle.forgetting_hall.specs.Halls.{ForgettingState}
 use Rattle.forgetting_hall.specs.Leading.{TurnsOn}
 use Rattle.forgetting_hall.specs.Telling.{HasTold}
@@ -15,28 +16,38 @@ module _ {O Op Reply : Type 0} (rules : Rules O Op Reply) (h : ForgettingState O
     all_count t n (told, long, has) all =
         all ∙ counted h.network.members told has ∙ length-append told h.gathering.commands ∙ ap (λ k. k + length h.gathering.commands) long
 
-    pub count_taken : (logs : Bool) (t n : ℕ) → HasTakenFor rules h logs t → n ≡ h.summary.placed
-        → (if logs then n else 0) ≡ (if logs then t else 0) + length (for_log logs h.gathering.commands)
-    count_taken true t n taken all = all_count t n (taken refl) all
-    count_taken false t n taken all = refl
-
     pub count_all : (logs : Bool) (t n : ℕ) → logs ≡ true → HasTakenFor rules h logs t → n ≡ h.summary.placed
         → n ≡ (if logs then t else 0) + length (for_log logs h.gathering.commands)
     count_all true t n is taken all = all_count t n (taken refl) all
     count_all false t n is taken all = absurd (cc)
 
-    -- and once that is taken, too, all was
-    pub taken_all : (takes : (members : List ℕ) (told : List (Command Op)) → HasTold rules members h told
+    -- once that is taken, too, all was, also where sessions are let go of then
+    module _ (takes : (members : List ℕ) (told : List (Command Op)) → HasTold rules members h told
         → HasTold rules members (record h { gathering = record h.gathering { commands = [] } }) (told ++ h.gathering.commands))
-        → (z : ForgettingState Op O Reply) → z ≡ record h { gathering = record h.gathering { commands = [] } }
-        → (logs : Bool) (t n : ℕ) → HasTakenFor rules h logs t → n ≡ z.summary.placed → HasTakenFor rules z logs n
-    taken_all takes z same logs t n taken all is =
-        let was = taken is in
-        let told = was.0 ++ h.gathering.commands in (
-          told,
-          sym (all ∙ ap (λ (q : ForgettingState Op O Reply). q.summary.placed) same ∙ counted h.network.members was.0 was.2),
-          subst (λ (q : ForgettingState Op O Reply). HasTold rules q.network.members q told) (sym same) (takes h.network.members was.0 was.2),
-        )
+        (z y : ForgettingState Op O Reply) (same : z ≡ record h { gathering = record h.gathering { commands = [] } })
+        (on : TurnsOn rules z y) (kept : y.gathering ≡ z.gathering)
+        (counted_then : (members : List ℕ) (told : List (Command Op)) → HasTold rules members y told
+        → y.summary.placed ≡ length (told ++ y.gathering.commands))
+        (t n : ℕ) (taken : HasTakenCount rules h t) (all : n ≡ y.summary.placed)
+      where
+        told_then : HasTold rules y.network.members y (taken.0 ++ h.gathering.commands)
+        told_then =
+            let told = taken.0 ++ h.gathering.commands in
+            subst (λ members. HasTold rules members y told) (sym on.leads.members) (on.tells z.network.members told
+            (subst (λ (q : ForgettingState Op O Reply). HasTold rules q.network.members q told) (sym same) (takes h.network.members taken.0 taken.2)))
+
+        all_told : n ≡ length (taken.0 ++ h.gathering.commands)
+        all_told =
+            let told = taken.0 ++ h.gathering.commands in
+            all ∙ counted_then y.network.members told told_then
+            ∙ ap (λ cs. length (told ++ cs)) (ap (λ (q : Gathering Op). q.commands) kept ∙ ap (λ (q : ForgettingState Op O Reply). q.gathering.commands) same)
+            ∙ ap length (append-nil told)
+
+        pub taken_then : HasTakenCount rules y n
+        taken_then = (taken.0 ++ h.gathering.commands, sym all_told, told_then)
+
+        pub count_then : n ≡ t + length h.gathering.commands
+        count_then = all_told ∙ length-append taken.0 h.gathering.commands ∙ ap (λ k. k + length h.gathering.commands) taken.1
 
 -- what was taken still was, where nothing is told
 pub still_taken : {O Op Reply : Type 0} (rules : Rules O Op Reply) (h z : ForgettingState Op O Reply) (logs : Bool) (t : ℕ)

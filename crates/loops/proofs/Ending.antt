@@ -9,7 +9,7 @@ use Rattle.object.specs.declared.command.Key.{Key}
 use Rattle.object.specs.Objects.{Rules}
 use Rattle.hall.specs.Tickets.{is_close}
 use Rattle.forgetting_hall.specs.Halls.{ForgettingState}
-use Rattle.forgetting_hall.specs.Leading.{LeadsOn}
+use Rattle.forgetting_hall.specs.Leading.{TurnsOn}
 use Rattle.loops.specs.Lending.{IsEndAmong}
 
 module _ {Op : Type 0} (commands : List (Command Op)) where
@@ -33,4 +33,5 @@ pub record HasNoted {O Op Reply : Type 0} (rules : Rules O Op Reply) (h z : Forg
   pub freed : HasMore commands before now
   pub submitted : z.summary.submitted ≡ h.summary.submitted
   pub opened : z.opened ≡ h.opened
-  pub goes_on : LeadsOn rules h z
+  pub gathering : z.gathering ≡ h.gathering
+  pub goes_on : TurnsOn rules h z

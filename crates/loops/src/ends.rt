@@ -1,11 +1,11 @@
 ghost use Rattle.std.specs.Prelude.{◌≡◌, ◌∷◌, ◌++◌, ◌⊎◌, [], true, List, All};
 ghost use Rattle.object.specs.declared.command.Key.{Key};
 ghost use Rattle.hall.specs.Tickets.{is_close};
-ghost use Rattle.forgetting_hall.specs.Leading.{LeadsOn};
+ghost use Rattle.forgetting_hall.specs.Leading.{TurnsOn};
 ghost use Rattle.loops.specs.Lending.{IsEndAmong, has_ended};
 
 use crate::steps;
-use forgetting_hall::{ForgettingHall, leads_on};
+use forgetting_hall::ForgettingHall;
 use object::{Act, Command, Key, Object};
 
 /// Puts the ends among these commands on the list of those whose sessions are free. Where there is no memory for that, a
@@ -19,9 +19,9 @@ pub(crate) fn note_ends<O: Object>(
         × All (λ key. IsEndAmong commands.now key) more }
     ensures submitted { hall.new.summary.submitted ≡ hall.old.summary.submitted }
     ensures opened { hall.new.opened ≡ hall.old.opened }
-    ensures goes_on { LeadsOn O.rules hall.old hall.new }
+    ensures gathering { hall.new.gathering ≡ hall.old.gathering }
+    ensures goes_on { TurnsOn O.rules hall.old hall.new }
 {
-    leads_on::<O>();
     for command in commands {
         note_end(hall, free, command);
     }
@@ -33,9 +33,9 @@ fn note_end<O: Object>(hall: &mut ForgettingHall<O>, free: &mut Vec<Key>, comman
         ⊎ ((free.new.items ≡ free.old.items ++ command.now.key ∷ []) × (is_close command.now.act ≡ true)) }
     ensures submitted { hall.new.summary.submitted ≡ hall.old.summary.submitted }
     ensures opened { hall.new.opened ≡ hall.old.opened }
-    ensures goes_on { LeadsOn O.rules hall.old hall.new }
+    ensures gathering { hall.new.gathering ≡ hall.old.gathering }
+    ensures goes_on { TurnsOn O.rules hall.old hall.new }
 {
-    leads_on::<O>();
     if is_close(command.act()) && free.push(command.key()).is_err() {
         steps::let_go(hall, command.key().session);
     }

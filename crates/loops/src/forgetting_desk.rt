@@ -27,9 +27,8 @@ const FORGOTTEN_AT_ONCE: u64 = 256;
 
 /// The desk of a hall that forgets: where sessions hand in, and where slots are forgotten once every node has performed them.
 ///
-/// The hall gathers what takes effect: for the log, where there is one, and else to tell which sessions have ended. Without a
-/// log a session is used again once its end has taken effect. A start from a log would refuse what comes behind an end, so
-/// with one each client gets a new session, and one that has ended is let go of.
+/// The hall gathers what takes effect, to tell which sessions have ended, and for the log, where there is one. A session is used
+/// again once its end has taken effect; with a log, once that is taken for it.
 #[derive(Drop)]
 pub(crate) struct ForgettingDesk<O: Object> {
     hall: ForgettingHall<O>,
@@ -152,10 +151,10 @@ impl<O: Object> ForgettingDesk<O> {
         Ok(Key { session, number: 0 })
     }
 
-    // Whoever had the session up to this key hands in nothing more. One that has ended is free once its end has taken effect, or
-    // with a log let go of; and so is one whose end the hall refused.
+    // Whoever had the session up to this key hands in nothing more. One that has ended is free once its end has taken effect;
+    // one whose end the hall refused is let go of.
     fn give_back(&mut self, last: Key)
-        ensures ended { self.old.logs ≡ false → has_ended self.old.hall last.session ≡ true → self.new ≡ self.old }
+        ensures ended { has_ended self.old.hall last.session ≡ true → self.new ≡ self.old }
         ensures other { last_number_of self.old.hall last.session ≢ last.number → self.new ≡ self.old }
         ensures free { self.new.free ≡ self.old.free }
         ensures submitted { self.new.hall.summary.submitted ≡ self.old.hall.summary.submitted }
@@ -164,7 +163,7 @@ impl<O: Object> ForgettingDesk<O> {
     {
         leads_on::<O>();
         let is_own = self.hall.last_number(last.session) == last.number;
-        if is_own && (self.logs || !has_ended(&self.hall, last.session)) {
+        if is_own && !has_ended(&self.hall, last.session) {
             steps::let_go(&mut self.hall, last.session);
         }
     }
@@ -182,9 +181,29 @@ impl<O: Object> ForgettingDesk<O> {
         if self.logs || self.hall.gathered_count() == 0 {
             return;
         }
-        let commands = self.hall.take_placed();
+        let _ = self.take_effects();
+    }
+
+    // Takes what took effect since this was called last, and counts it as taken. Sessions that have ended there are free then.
+    fn take_effects(&mut self) -> Vec<Command<O::Op>>
+        ensures effects { result.items ≡ self.old.hall.gathering.commands }
+        ensures freed { (more : List Key) × (self.new.free ≡ self.old.free ++ more)
+            × All (λ key. IsEndAmong self.old.hall.gathering.commands key) more }
+        ensures left { self.new.hall.gathering.commands ≡ [] }
+        ensures logs { self.new.logs ≡ self.old.logs }
+        ensures taken { self.old.logs ≡ true →
+            self.new.taken ≡ self.old.taken + length self.old.hall.gathering.commands }
+        ensures submitted { self.new.hall.summary.submitted ≡ self.old.hall.summary.submitted }
+        ensures opened { self.new.hall.opened ≡ self.old.hall.opened }
+        ensures goes_on { LeadsOn O.rules self.old.hall self.new.hall }
+    {
+        tells_in_order::<O>();
+        leads_on::<O>();
+        let placed = self.hall.take_placed();
         let ForgettingDesk { hall, free, .. } = self;
-        note_ends(hall, free, &commands);
+        note_ends(hall, free, &placed);
+        self.taken = self.hall.placed_count();
+        placed
     }
 
     // The act is handed in behind this key, the last one of its session. What a client hands in first may come behind the end of
@@ -338,12 +357,10 @@ impl<O: Object<Op = Op, Reply = Reply>> LoopDesk for ForgettingDesk<O> {
     }
 
     fn take_placed(&mut self) -> Result<Vec<Command<Op>>, AllocError> {
-        tells_in_order::<O>();
-        let mut placed = self.hall.take_placed();
+        let mut placed = self.take_effects();
         if !self.logs {
             placed.clear();
         }
-        self.taken = self.hall.placed_count();
         Ok(placed)
     }
 

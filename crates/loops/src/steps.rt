@@ -119,6 +119,7 @@ pub(crate) fn open_session<O: Object>(hall: &mut ForgettingHall<O>) -> Result<u3
 pub(crate) fn let_go<O: Object>(hall: &mut ForgettingHall<O>, session: u32)
     ensures submitted { hall.new.summary.submitted ≡ hall.old.summary.submitted }
     ensures opened { hall.new.opened ≡ hall.old.opened }
+    ensures gathering { hall.new.gathering ≡ hall.old.gathering }
     ensures goes_on { TurnsOn O.rules hall.old hall.new }
 {
     tells_in_order::<O>();

@@ -1,14 +1,17 @@
-ghost use Rattle.std.specs.Prelude.{◌≡◌, ◌++◌, false, length, IfOk, OnOk, IsTrue};
+ghost use Rattle.std.specs.Prelude.{◌≡◌, ◌≢◌, ◌⊎◌, ◌++◌, [], true, false, length, Err, IfOk, IfErr, OnOk, IsTrue};
 ghost use Rattle.hall.specs.Halls.{has_unplaced};
 ghost use Rattle.recorder.specs.Records.{commands_from};
 ghost use Rattle.recovery.specs.Clocks.{last_second_in};
 ghost use Rattle.recovery.specs.Opened.{EndsAll};
+ghost use Rattle.recovery.specs.UsedAgain.{uses_again};
+ghost use Rattle.recovery.specs.declared.fault.RecoverFault.TheVariants.{OutOfMemory, UsedAgain};
 
 use crate::clock::last_second_in;
 use crate::fault::RecoverFault;
 use crate::open_sessions::{end_all, note_all};
 use crate::recovery::are_same;
 use crate::steps::{FIRST_NODE, settle_all};
+use crate::used_again::uses_again;
 use ballot::Members;
 use hall::{Hall, Ticket};
 use object::{Act, Command, Object, Value, copies_of};
@@ -44,15 +47,23 @@ pub struct RecoveredKeeping<O: Object> {
 }
 
 impl<O: Object> KeepingRecovery<O> {
-    /// A hall of these members that has obeyed nothing.
-    pub fn begin(alloc: Global, members: Members) -> Result<KeepingRecovery<O>, RecoverFault>
-        ensures { IfOk result (λ r. r ≡ members) }
+    /// A hall of these members that has obeyed nothing. All commands of the log are looked through: where a session goes on
+    /// behind its end the log is refused, since this hall is busy there.
+    pub fn begin(
+        alloc: Global,
+        members: Members,
+        commands: &[Command<O::Op>],
+    ) -> Result<KeepingRecovery<O>, RecoverFault>
+        ensures members { IfOk result (λ r. r ≡ members) }
+        ensures again { uses_again [] commands.now ≡ true →
+            (result ≡ Err UsedAgain) ⊎ (result ≡ Err OutOfMemory) }
+        ensures only { result ≡ Err UsedAgain → uses_again [] commands.now ≡ true }
     {
-        let mut hall = Hall::new(alloc, members)?;
-        hall.wake(FIRST_NODE)?;
-        settle_all(&mut hall)?;
+        if uses_again(alloc, commands)? {
+            return Err(RecoverFault::UsedAgain);
+        }
         Ok(KeepingRecovery {
-            hall,
+            hall: begun_keeping(alloc, members)?,
             tickets: Vec::new(alloc),
             members,
             alloc,
@@ -125,6 +136,16 @@ impl<O: Object> KeepingRecovery<O> {
         let act = command.act().copy()?;
         submit(&mut self.hall, &mut self.tickets, key.session, act)
     }
+}
+
+// A hall in which nothing happened but that its first node asked to lead.
+fn begun_keeping<O: Object>(alloc: Global, members: Members) -> Result<Hall<O>, RecoverFault>
+    ensures { IfErr result (λ fault. fault ≢ UsedAgain) }
+{
+    let mut hall = Hall::new(alloc, members)?;
+    hall.wake(FIRST_NODE)?;
+    settle_all(&mut hall)?;
+    Ok(hall)
 }
 
 // A session that is there hands in its next command.

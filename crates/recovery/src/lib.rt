@@ -9,6 +9,7 @@ mod open_sessions;
 mod recovery;
 mod sessions;
 mod steps;
+mod used_again;
 
 pub use fault::RecoverFault;
 pub use keeping::{KeepingRecovery, RecoveredKeeping};

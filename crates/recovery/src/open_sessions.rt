@@ -58,8 +58,8 @@ pub(crate) fn end_all<Op: Value>(live: BTreeSet<u32>, commands: &[Command<Op>]) 
     left.is_empty()
 }
 
-// The act ends its session.
-fn is_close<Op: Value>(act: &Act<Op>) -> bool
+/// Whether the act ends its session.
+pub(crate) fn is_close<Op: Value>(act: &Act<Op>) -> bool
     ensures { result ≡ is_close act.now }
 {
     matches!(act, Act::Close)

@@ -22,7 +22,8 @@ use std::marker::Model;
 /// So many commands are handed in before the nodes take their turns.
 const AT_ONCE: usize = 64;
 
-/// A hall that obeys the commands of a log.
+/// A hall that obeys the commands of a log. Its sessions stay there until all are obeyed, since one may go on behind its
+/// end.
 #[derive(Drop)]
 pub struct Recovery<O: Object> {
     hall: ForgettingHall<O>,
@@ -131,7 +132,7 @@ impl<O: Object> Recovery<O> {
         if !end_all(live, &closes) {
             return Err(RecoverFault::NoOrder);
         }
-        steps::forget(&mut hall, &closes);
+        steps::forget(&mut hall, &sessions);
         if !has_settled(&hall) || hall.last_second() != second {
             return Err(RecoverFault::NoOrder);
         }
@@ -157,7 +158,7 @@ impl<O: Object> Recovery<O> {
         }
         note_all(&mut self.live, commands)?;
         self.second = self.second.max(last_second_in(commands));
-        steps::forget(&mut self.hall, commands);
+        steps::forget_slots(&mut self.hall);
         Ok(())
     }
 

@@ -1,6 +1,7 @@
-ghost use Rattle.std.specs.Prelude.{◌≡◌, ◌≤◌, ℕ, OnOk};
+ghost use Rattle.std.specs.Prelude.{◌≡◌, ◌≢◌, ◌≤◌, ℕ, IfErr, OnOk};
 ghost use Rattle.turns.specs.Working.{no_work};
 ghost use Rattle.forgetting_hall.specs.Telling.{TellsOn};
+ghost use Rattle.recovery.specs.declared.fault.RecoverFault.TheVariants.{UsedAgain};
 
 use crate::fault::RecoverFault;
 use forgetting_hall::{ForgettingHall, tells_in_order};
@@ -26,6 +27,7 @@ pub(crate) fn settle_all<N: Nodes>(hall: &mut N) -> Result<(), RecoverFault>
     ensures goes_on { N.goes_on hall.old hall.new }
     ensures calm { OnOk result ((n : ℕ) → 1 ≤ n → n ≤ N.node_count hall.new
         → N.work_of hall.new n ≡ no_work) }
+    ensures fault { IfErr result (λ fault. fault ≢ UsedAgain) }
 {
     for _ in 0..MOST_ROUNDS {
         if settle(hall, FIRST_NODE)? {
@@ -71,19 +73,15 @@ pub(crate) fn close<O: Object>(
     Ok(())
 }
 
-/// The sessions that these commands end are let go of, and slots that every node has performed are forgotten.
-pub(crate) fn forget<O: Object>(hall: &mut ForgettingHall<O>, commands: &[Command<O::Op>])
+/// These sessions are let go of, and slots that every node has performed are forgotten.
+pub(crate) fn forget<O: Object>(hall: &mut ForgettingHall<O>, sessions: &[u32])
     ensures told { TellsOn O.rules hall.old hall.new }
     ensures gathering { hall.new.gathering ≡ hall.old.gathering }
 {
-    for command in commands {
-        if matches!(command.act(), Act::Close) {
-            let_go(hall, command.key().session);
-        }
+    for session in sessions {
+        let_go(hall, *session);
     }
-    drop_slots(hall);
-    // nobody waits for them
-    let _ = hall.take_answered();
+    forget_slots(hall);
 }
 
 // A session is let go of.
@@ -97,11 +95,12 @@ fn let_go<O: Object>(hall: &mut ForgettingHall<O>, session: u32)
     }
 }
 
-// Slots are forgotten.
-fn drop_slots<O: Object>(hall: &mut ForgettingHall<O>)
+/// Slots that every node has performed are forgotten, and who was answered, since nobody waits.
+pub(crate) fn forget_slots<O: Object>(hall: &mut ForgettingHall<O>)
     ensures told { TellsOn O.rules hall.old hall.new }
     ensures gathering { hall.new.gathering ≡ hall.old.gathering }
 {
     tells_in_order::<O>();
     hall.forget();
+    let _ = hall.take_answered();
 }

@@ -1,6 +1,6 @@
 use Rattle.std.proofs.Common.{[], refl, sym, ◌∙◌, append-nil}
 use Rattle.std.proofs.lemmas.List.Elements.{All-nil}
-use Rattle.forgetting_hall.specs.LeadingLaws.{leads_stay, leads_trans}
+use Rattle.forgetting_hall.specs.LeadingLaws.{turns_stay, turns_further}
 use Rattle.loops.specs.Lending.{IsEndAmong}
 use Rattle.loops.proofs.Ending.{one_end_more}
 use Rattle.loops.proofs.ends.note_ends.Goals as goal
@@ -10,7 +10,8 @@ loop-command-init g c = record {
   freed = ([], sym (append-nil c.args.free.now.items), All-nil (λ key. IsEndAmong c.args.commands.now key));
   submitted = refl;
   opened = refl;
-  goes_on = leads_stay g.O.Object.rules c.args.hall.now c.args.hall.now refl;
+  gathering = refl;
+  goes_on = turns_stay g.O.Object.rules c.args.hall.now;
 }
 
 pub loop-command-preserved : goal.loop-command-preserved
@@ -22,5 +23,6 @@ loop-command-preserved g c =
           c.args.free.now.items c.loop-command.free.items c.note_end.new.free.items was.freed does.freed;
       submitted = does.submitted ∙ was.submitted;
       opened = does.opened ∙ was.opened;
-      goes_on = leads_trans g.O.Object.rules c.args.hall.now c.loop-command.hall c.note_end.new.hall was.goes_on does.goes_on;
+      gathering = does.gathering ∙ was.gathering;
+      goes_on = turns_further g.O.Object.rules c.args.hall.now c.loop-command.hall c.note_end.new.hall was.goes_on does.goes_on;
     }

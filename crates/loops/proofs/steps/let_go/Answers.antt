@@ -10,6 +10,7 @@ returns-then-session-ne0 g c =
     record {
       submitted = ap (λ (q : HallRest _ _ _). q.summary.submitted) does.let_go;
       opened = ap (λ (q : HallRest _ _ _). q.opened) does.let_go;
+      gathering = does.gathering;
       goes_on = record {
         tells = c.tells_in_order.ensures.stays h c.let_go.new.self does.still does.gathering;
         leads = c.leads_on.ensures.lets_go h c.let_go.new.self c.args.session other does.let_go does.still;
@@ -20,5 +21,6 @@ pub returns-else-session-ne0 : goal.returns-else-session-ne0
 returns-else-session-ne0 g c = record {
   submitted = refl;
   opened = refl;
+  gathering = refl;
   goes_on = record { tells = λ members told has. has; leads = c.leads_on.ensures.stays c.args.hall.now };
 }

@@ -11,7 +11,7 @@ returns-clause-obeyed g c = λ members before has.
     let handed_in = c.loop-command.invariant in
     let same = sym c.deref.ensures.value ∙ c.are_same.ensures c.if-not-are_same.false in
     record {
-      told = c.forget.ensures.told members (before ++ cs) (subst (λ ds. HasTold rules members c.placed.new.hall (before ++ ds)) same
+      told = c.forget_slots.ensures.told members (before ++ cs) (subst (λ ds. HasTold rules members c.placed.new.hall (before ++ ds)) same
           (c.in_ok-placed.ensures.told members before (subst (λ (r : RecoveryState _ _ _). HasTold rules members r.hall before) (sym c.self.view_is)
           (handed_in.0 members before has.told))));
       live = c.in_ok-note_all.ensures before (subst (λ (r : RecoveryState _ _ _). AreLeftOpen r.live before) (sym c.self.view_is)
