@@ -317,26 +317,33 @@ impl Shelves {
         self.went.pop();
     }
 
-    /// Lets look-ups begin after the places that were left, on the shelves where the job stood that went last.
+    /// Lets look-ups begin after the places that were left, on the shelves where the job stood that went last. Those of the
+    /// reserved jobs of a tube don't: in a trial they are asked for once at most.
     fn settle(&mut self, jobs: &BTreeMap<u64, StoredJob>)
         requires { Rising 0 (2 ^ 64) jobs.now.entries }
         ensures { HasSettled self.old self.new jobs.now.entries }
     {
-        let Some((_, spot)) = self.went.last() else {
+        let Some((id, spot)) = self.went.last() else {
             return;
         };
+        let id = *id;
         let tube = &spot.tube;
         match spot.state {
-            State::Ready => self.ready.settle(tube, Label::Ready(tube), jobs),
-            State::Buried { .. } => self.buried.settle(tube, Label::Buried(tube), jobs),
-            State::Delayed { .. } => {
-                self.delayed.settle(tube, Label::Delayed(tube), jobs);
-                self.scheduled.settle(Label::Scheduled, jobs);
+            State::Ready => self
+                .ready
+                .settle(tube, Label::Ready(tube), jobs, spot.pri, id),
+            State::Buried { rank } => self
+                .buried
+                .settle(tube, Label::Buried(tube), jobs, rank, id),
+            State::Delayed { due } => {
+                self.delayed
+                    .settle(tube, Label::Delayed(tube), jobs, due, id);
+                self.scheduled.settle(Label::Scheduled, jobs, due, id);
             }
-            State::Reserved { session, .. } => {
-                self.held.settle(&session, Label::Held(session), jobs);
-                self.scheduled.settle(Label::Scheduled, jobs);
-                self.reserved.settle(tube, Label::Reserved(tube), jobs);
+            State::Reserved { session, due } => {
+                self.held
+                    .settle(&session, Label::Held(session), jobs, due, id);
+                self.scheduled.settle(Label::Scheduled, jobs, due, id);
             }
         }
     }
