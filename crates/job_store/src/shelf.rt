@@ -75,12 +75,29 @@ impl<N: ShelfNumber> Shelf<N> {
         Ok(())
     }
 
-    /// Takes a place out, if it is there.
+    /// Takes a place out, if it is there. Where look-ups begin after all places, it takes out all: no job stands there.
     pub fn take(&mut self, number: N, id: u64)
         ensures { HasLost self.old self.new (N.value number, id) }
     {
+        if self.is_behind(number, id) && self.is_left() {
+            self.places.clear();
+            self.low = 0;
+            return;
+        }
         let was_there = self.places.remove(&(number, id));
         self.low -= low_change(was_there, number);
+    }
+
+    /// Whether look-ups begin after the last place.
+    fn is_left(&self) -> bool
+        ensures { result ≡ true → (p : ℕ × ℕ) → IsFound self.now p → ⊥ }
+    {
+        // Gives the proof that the places are in order.
+        let _ = self.places.len();
+        match self.places.last() {
+            Some(last) => self.is_behind(last.0, last.1),
+            None => false,
+        }
     }
 
     /// Whether look-ups begin after a place.

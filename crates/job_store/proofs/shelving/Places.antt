@@ -98,6 +98,11 @@ lt-after p q =
           ]
     ]
 
+pub from-before : (from p q : ℕ × ℕ) → is_lt (shelf_cmp q p) ≡ false → IsFrom from p → IsFrom from q
+from-before from p q late f =
+    let not-after : is_after q p ≡ false = sym (lt-after q p) ∙ late in
+    grind arith
+
 -- At which place
 
 pub at_place : (p q : ℕ × ℕ) → is_at (shelf_cmp p) q ≡ true → p ≡ q
@@ -231,14 +236,14 @@ found-by old mid new k put reached = (subst (In k) (sym (reached.places ∙ put)
 pub lost-by : (old new : ShelfState) (k : ℕ × ℕ) → new.places ≡ remove_key (is_at (shelf_cmp k)) old.places
     → list_any (is_at (shelf_cmp k)) new.places ≡ false → new.from ≡ old.from → HasLost old new k
 lost-by old new k taken gone same = record {
-  keeps = λ p i apart. subst (In p) (sym taken) (take-keeps k p old.places i apart);
+  keeps = λ p f apart. subst (In p) (sym taken) (take-keeps k p old.places f.0 apart);
   only = λ p i. (take-was (is_at (shelf_cmp k)) p old.places (subst (In p) taken i), take-gone k p new.places gone i);
   ahead = λ p h. subst (λ from. IsFrom from p) (sym same) h;
 }
 
 pub lost-all : (old new : ShelfState) (k : ℕ × ℕ) → HasLost old new k → ((p : ℕ × ℕ) → In p new.places → ⊥) → HasLost old bare k
 lost-all old new k lost none = record {
-  keeps = λ p i apart. none p (lost.keeps p i apart);
+  keeps = λ p f apart. none p (lost.keeps p f apart);
   only = λ p i. absurd i;
   ahead = λ p h. from-zero p;
 }
