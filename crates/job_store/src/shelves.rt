@@ -317,8 +317,7 @@ impl Shelves {
         self.went.pop();
     }
 
-    /// Lets look-ups begin after the places that were left, on the shelves where the job stood that went last. Those of the
-    /// reserved jobs of a tube don't: in a trial they are asked for once at most.
+    /// Lets look-ups begin after the places that were left, on the shelves where the job stood that went last.
     fn settle(&mut self, jobs: &BTreeMap<u64, StoredJob>)
         requires { Rising 0 (2 ^ 64) jobs.now.entries }
         ensures { HasSettled self.old self.new jobs.now.entries }
@@ -344,6 +343,8 @@ impl Shelves {
                 self.held
                     .settle(&session, Label::Held(session), jobs, due, id);
                 self.scheduled.settle(Label::Scheduled, jobs, due, id);
+                self.reserved
+                    .settle(tube, Label::Reserved(tube), jobs, due, id);
             }
         }
     }

@@ -208,3 +208,9 @@ pub settle-buried : (s : Shelves) (r : Rack Name ℕ) (jobs : List (ℕ × Job))
     (shelf_at name_cmp r.shelves tube.now) → AreOthersKept name_cmp tube.now s.buried.shelves r.shelves
     → HasSettled s (record s { buried = r }) jobs
 settle-buried s r jobs {tube} moved others = settle-at s (record s { buried = r }) (Label.Buried tube) (only-buried s r tube others) refl jobs moved
+
+pub settle-reserved : (s : Shelves) (r : Rack Name ℕ) (jobs : List (ℕ × Job)) {tube : Bor Name}
+    → HasMovedOn (Label.Reserved tube) jobs (shelf_at name_cmp s.reserved.shelves tube.now)
+    (shelf_at name_cmp r.shelves tube.now) → AreOthersKept name_cmp tube.now s.reserved.shelves r.shelves
+    → HasSettled s (record s { reserved = r }) jobs
+settle-reserved s r jobs {tube} moved others = settle-at s (record s { reserved = r }) (Label.Reserved tube) (only-reserved s r tube others) refl jobs moved

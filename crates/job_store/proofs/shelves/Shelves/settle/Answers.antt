@@ -1,7 +1,7 @@
 use Rattle.std.proofs.Common.{refl}
 use Rattle.job_store.specs.declared.label.Label.{Label}
 use Rattle.job_store.proofs.shelving.Shelving.{settled-twice}
-use Rattle.job_store.proofs.shelving.ShelfFields.{only-held, only-scheduled, settle-at, settle-ready, settle-delayed, settle-buried}
+use Rattle.job_store.proofs.shelving.ShelfFields.{only-held, only-scheduled, settle-at, settle-ready, settle-delayed, settle-buried, settle-reserved}
 use Rattle.job_store.proofs.shelves.Shelves.settle.Goals as goal
 
 pub returns-in-Ready : goal.returns-in-Ready
@@ -28,7 +28,18 @@ returns-in-Delayed c =
 
 pub returns-in-Reserved : goal.returns-in-Reserved
 returns-in-Reserved c =
-    settled-twice c.args.self.now (record c.args.self.now { held = c.settle-in-Reserved.new.self })
+    settled-twice c.args.self.now (record c.args.self.now {
+      held = c.settle-in-Reserved.new.self;
+      scheduled =
+          c.settle-in-Reserved-2.new.self;
+    })
+    (record c.args.self.now {
+      held = c.settle-in-Reserved.new.self;
+      scheduled =
+          c.settle-in-Reserved-2.new.self;
+      reserved = c.settle-in-Reserved-3.new.self;
+    }) c.args.jobs.now.entries
+    (settled-twice c.args.self.now (record c.args.self.now { held = c.settle-in-Reserved.new.self })
     (record c.args.self.now { held = c.settle-in-Reserved.new.self; scheduled = c.settle-in-Reserved-2.new.self })
     c.args.jobs.now.entries
     (settle-at c.args.self.now (record c.args.self.now { held = c.settle-in-Reserved.new.self })
@@ -41,4 +52,10 @@ returns-in-Reserved c =
           c.settle-in-Reserved-2.new.self;
     }) Label.Scheduled
     (only-scheduled (record c.args.self.now { held = c.settle-in-Reserved.new.self })
-    c.settle-in-Reserved-2.new.self) refl c.args.jobs.now.entries c.settle-in-Reserved-2.ensures)
+    c.settle-in-Reserved-2.new.self) refl c.args.jobs.now.entries c.settle-in-Reserved-2.ensures))
+    (settle-reserved (record c.args.self.now {
+      held = c.settle-in-Reserved.new.self;
+      scheduled =
+          c.settle-in-Reserved-2.new.self;
+    }) c.settle-in-Reserved-3.new.self c.args.jobs.now.entries
+    c.settle-in-Reserved-3.ensures.change c.settle-in-Reserved-3.ensures.others)
