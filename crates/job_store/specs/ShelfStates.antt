@@ -29,9 +29,10 @@ pub record HasGained (old new : ShelfState) (place : ℕ × ℕ) : Type 0 where
   pub only : (p : ℕ × ℕ) → In p new.places → In p old.places ⊎ (p ≡ place)
   pub ahead : (p : ℕ × ℕ) → IsFrom old.from p → IsFrom new.from p
 
--- this place alone went from the shelf, if it was there, and look-ups begin nowhere later
+-- Of the places that look-ups found this one alone went from the shelf, if it was there. It is there no more, and look-ups
+-- begin nowhere later.
 pub record HasLost (old new : ShelfState) (place : ℕ × ℕ) : Type 0 where
-  pub keeps : (p : ℕ × ℕ) → In p old.places → (p ≡ place → ⊥) → In p new.places
+  pub keeps : (p : ℕ × ℕ) → IsFound old p → (p ≡ place → ⊥) → In p new.places
   pub only : (p : ℕ × ℕ) → In p new.places → In p old.places × (p ≡ place → ⊥)
   pub ahead : (p : ℕ × ℕ) → IsFrom old.from p → IsFrom new.from p
 

@@ -55,6 +55,10 @@ AreAllFound label s jobs = (p : ℕ × ℕ) (e : ℕ × Job) → In e jobs → B
 abbrev pub IsPassed : Label → List (ℕ × Job) → ShelfState → ℕ × ℕ → Type 0
 IsPassed label jobs s place = (p : ℕ × ℕ) (e : ℕ × Job) → In e jobs → BelongsAt label p e → IsFound s p → IsFrom place p
 
+-- look-ups of the shelf begin at this place, where none of the jobs belongs
+abbrev pub BeginsAtLeft : Label → List (ℕ × Job) → ShelfState → ℕ × ℕ → Type 0
+BeginsAtLeft label jobs s place = (s.from ≡ place) × ((e : ℕ × Job) → In e jobs → BelongsAt label place e → ⊥)
+
 -- the ids rise, and a look-up of the shelf finds each of the jobs that belongs there
 pub record CanLookUp (label : Label) (s : ShelfState) (jobs : List (ℕ × Job)) : Type 0 where
   pub rising : Rising 0 (2 ^ 64) jobs

@@ -8,7 +8,7 @@ use crate::job::Job;
 use crate::mark::Mark;
 use crate::state::State;
 use crate::stored_job::StoredJob;
-use crate::undo::{Undo, note, put, undo_all};
+use crate::undo::{Undo, put, undo_all};
 use object::Value;
 use std::alloc::{AllocError, Global};
 use std::collections::BTreeMap;
@@ -161,8 +161,14 @@ impl LoggedJobs {
         ensures rising { Rising 0 (2 ^ 64) self.new.jobs }
         ensures before { self.new.before ≡ self.old.before }
     {
-        note(&mut self.log, self.is_trial, id, &self.jobs)?;
-        set_state(&mut self.jobs, id, state, mark);
+        set_state(
+            &mut self.jobs,
+            &mut self.log,
+            self.is_trial,
+            id,
+            state,
+            mark,
+        )?;
         Ok(())
     }
 
@@ -175,14 +181,13 @@ impl LoggedJobs {
         ensures rising { Rising 0 (2 ^ 64) self.new.jobs }
         ensures before { self.new.before ≡ self.old.before }
     {
-        note(&mut self.log, self.is_trial, id, &self.jobs)?;
         let change = Change {
             id,
             pri,
             state,
             mark,
         };
-        make(&mut self.jobs, &change);
+        make(&mut self.jobs, &mut self.log, self.is_trial, &change)?;
         Ok(())
     }
 

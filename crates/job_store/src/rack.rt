@@ -115,14 +115,22 @@ impl<K: ShelfName, N: ShelfNumber> Rack<K, N> {
         }
     }
 
-    /// Lets look-ups of a shelf begin after the places that were left, as far as the first job stands behind them.
-    pub fn settle(&mut self, key: &K, label: Label, jobs: &BTreeMap<u64, StoredJob>)
+    /// Lets look-ups of a shelf begin after the places that were left, as far as the first job stands behind them. A job has
+    /// left this place.
+    pub fn settle(
+        &mut self,
+        key: &K,
+        label: Label,
+        jobs: &BTreeMap<u64, StoredJob>,
+        number: N,
+        id: u64,
+    )
         requires { Rising 0 (2 ^ 64) jobs.now.entries }
         ensures { ChangesOne K.cmp key.now self.old.shelves self.new.shelves
             (HasMovedOn label.entry jobs.now.entries) }
     {
         if let Some(shelf) = self.shelves.get_mut(key) {
-            shelf.settle(label, jobs);
+            shelf.settle(label, jobs, number, id);
         }
     }
 

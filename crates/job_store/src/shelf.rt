@@ -4,7 +4,7 @@ ghost use Rattle.job_store.specs.Entries.{Rising};
 ghost use Rattle.job_store.specs.Least.{IsLeast};
 ghost use Rattle.job_store.specs.ShelfStates.{bare, numbered_place, IsFound, HasGained, HasLost, HasReached, IsFrom};
 ghost use Rattle.job_store.specs.Counts.{count_of, AreApart};
-ghost use Rattle.job_store.specs.Shelves.{belongs, belongs_after, number, CanLookUp, FindsFirst, IsPassed, HasMovedOn};
+ghost use Rattle.job_store.specs.Shelves.{belongs, belongs_after, number, CanLookUp, FindsFirst, IsPassed, BeginsAtLeft, HasMovedOn};
 
 use crate::count::Count;
 use crate::job::Job;
@@ -75,12 +75,29 @@ impl<N: ShelfNumber> Shelf<N> {
         Ok(())
     }
 
-    /// Takes a place out, if it is there.
+    /// Takes a place out, if it is there. Where look-ups begin after all places, it takes out all: no job stands there.
     pub fn take(&mut self, number: N, id: u64)
         ensures { HasLost self.old self.new (N.value number, id) }
     {
+        if self.is_behind(number, id) && self.is_left() {
+            self.places.clear();
+            self.low = 0;
+            return;
+        }
         let was_there = self.places.remove(&(number, id));
         self.low -= low_change(was_there, number);
+    }
+
+    /// Whether look-ups begin after the last place.
+    fn is_left(&self) -> bool
+        ensures { result ≡ true → (p : ℕ × ℕ) → IsFound self.now p → ⊥ }
+    {
+        // Gives the proof that the places are in order.
+        let _ = self.places.len();
+        match self.places.last() {
+            Some(last) => self.is_behind(last.0, last.1),
+            None => false,
+        }
     }
 
     /// Whether look-ups begin after a place.
@@ -97,12 +114,33 @@ impl<N: ShelfNumber> Shelf<N> {
         self.from = min(self.from, (number, id));
     }
 
-    /// Lets look-ups begin after the places that were left, as far as the first job stands behind them.
-    pub fn settle(&mut self, label: Label, jobs: &BTreeMap<u64, StoredJob>)
+    /// Lets look-ups begin after the places that were left, as far as the first job stands behind them. A job has left this
+    /// place: mostly they began there, and then they begin right after it.
+    pub fn settle(&mut self, label: Label, jobs: &BTreeMap<u64, StoredJob>, number: N, id: u64)
         requires { Rising 0 (2 ^ 64) jobs.now.entries }
         ensures { HasMovedOn label.entry jobs.now.entries self.old self.new }
     {
-        self.from = self.front(label, jobs);
+        if self.begins_at_left(label, jobs, number, id) {
+            self.from = (number, id.saturating_add(1));
+        } else {
+            self.from = self.front(label, jobs);
+        }
+    }
+
+    /// Whether look-ups begin at a place where no job stands.
+    fn begins_at_left(
+        &self,
+        label: Label,
+        jobs: &BTreeMap<u64, StoredJob>,
+        number: N,
+        id: u64,
+    ) -> bool
+        requires { Rising 0 (2 ^ 64) jobs.now.entries }
+        ensures { result ≡ true
+            → BeginsAtLeft label.entry jobs.now.entries self.now (N.value number, id) }
+    {
+        let begins = self.from.0.wide() == number.wide() && self.from.1 == id;
+        begins && label.job_at(jobs, number.wide(), id).is_none()
     }
 
     /// The first place at which a job stands, or the last one where there is no job.
@@ -145,7 +183,21 @@ impl<N: ShelfNumber> Shelf<N> {
         &self.places
     }
 
-    /// The job that belongs at the first of all places, if it hasn't left that.
+    /// The first of the places that look-ups may find, if there are any: the first of all, or the one at which they begin.
+    fn first_place(&self) -> Option<(N, u64)>
+        ensures { IfSome result (λ place. (p : ℕ × ℕ) → IsFound self.now p
+            → IsFrom (numbered_place N.value place) p) }
+    {
+        // Gives the proof that the places are in order.
+        let _ = self.places.len();
+        let place = self.places.first()?;
+        if self.is_behind(place.0, place.1) {
+            return Some(self.from);
+        }
+        Some(*place)
+    }
+
+    /// The job that belongs at the first place that look-ups may find, if there is one.
     fn at_first_place<'a>(
         &self,
         label: Label,
@@ -155,15 +207,13 @@ impl<N: ShelfNumber> Shelf<N> {
         ensures { IfSome result (λ e. IsLeast (belongs label.entry) (number label.entry)
             jobs.now.entries (e.0, e.1.now)) }
     {
-        // Gives the proof that the places are in order.
-        let _ = self.places.len();
-        let place = self.places.first()?;
+        let place = self.first_place()?;
         let job = label.job_at(jobs, place.0.wide(), place.1)?;
         Some((place.1, job))
     }
 
     /// The first of the jobs that belong on the shelf, where a look-up finds all of them. It mostly stands at the first of
-    /// all places, which is found sooner than the one at which look-ups begin.
+    /// the places that look-ups may find, which is found without a search.
     pub fn first<'a>(
         &self,
         label: Label,

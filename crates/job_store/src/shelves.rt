@@ -6,7 +6,7 @@ ghost use Rattle.job_store.specs.declared.spot.Spot.{Spot};
 ghost use Rattle.job_store.specs.Entries.{Rising, value_at};
 ghost use Rattle.job_store.specs.ShelfStates.{bare, IsFrom, IsFound};
 ghost use Rattle.job_store.specs.Spots.{spot_of, changed_spot, at_spot};
-ghost use Rattle.job_store.specs.Shelves.{shelf, places, lists, belongs, BelongsAt, IsAhead, IsAlone, LacksJob, LacksPlace, AreInReach, HoldJobs, AreSwept, CanGoBack, IsGone, BeginNoLater, HasPut, HasTaken, HasGoneBack, HasSettled, HasCome, IsListed, ListsMore, PutsInDoubt, HasCaughtUp};
+ghost use Rattle.job_store.specs.Shelves.{shelf, places, lists, belongs, BelongsAt, IsAhead, AreAhead, IsAlone, LacksJob, LacksPlace, AreInReach, HoldJobs, AreSwept, CanGoBack, IsGone, BeginNoLater, HasPut, HasTaken, HasGoneBack, HasSettled, HasCome, IsListed, ListsMore, PutsInDoubt, HasCaughtUp};
 
 use crate::job::Job;
 use crate::label::Label;
@@ -146,8 +146,8 @@ impl Shelves {
     /// Takes a job from the shelf with this label, where it belongs.
     fn take_off(&mut self, label: Label, id: u64, spot: &Spot)
         requires { belongs label (id, at_spot spot.now) ≡ true }
-        ensures taken { (jobs : List (ℕ × Job)) → IsAlone label.entry jobs (id, at_spot spot.now)
-            → HasTaken self.old self.new jobs }
+        ensures taken { (jobs : List (ℕ × Job)) → AreAhead self.old jobs
+            → IsAlone label.entry jobs (id, at_spot spot.now) → HasTaken self.old self.new jobs }
         ensures gone { LacksPlace self.new (id, at_spot spot.now) label.entry }
     {
         let number = label.number(spot.pri, spot.state);
@@ -178,7 +178,7 @@ impl Shelves {
 
     /// Takes a job from the shelf with this label, where the map has no job of its id.
     fn clear_from(&mut self, label: Label, id: u64, spot: &Spot)
-        ensures taken { (jobs : List (ℕ × Job)) → LacksJob id jobs
+        ensures taken { (jobs : List (ℕ × Job)) → AreAhead self.old jobs → LacksJob id jobs
             → HasTaken self.old self.new jobs }
         ensures gone { LacksPlace self.new (id, at_spot spot.now) label.entry }
     {
@@ -231,7 +231,7 @@ impl Shelves {
 
     /// Takes a job from its shelves, where the map has no job of its id. The map isn't looked at.
     pub fn clear_everywhere(&mut self, id: u64, spot: &Spot)
-        ensures taken { (jobs : List (ℕ × Job)) → LacksJob id jobs
+        ensures taken { (jobs : List (ℕ × Job)) → AreAhead self.old jobs → LacksJob id jobs
             → HasTaken self.old self.new jobs }
         ensures gone { (label : Label) → LacksPlace self.new (id, at_spot spot.now) label }
     {
@@ -322,21 +322,29 @@ impl Shelves {
         requires { Rising 0 (2 ^ 64) jobs.now.entries }
         ensures { HasSettled self.old self.new jobs.now.entries }
     {
-        let Some((_, spot)) = self.went.last() else {
+        let Some((id, spot)) = self.went.last() else {
             return;
         };
+        let id = *id;
         let tube = &spot.tube;
         match spot.state {
-            State::Ready => self.ready.settle(tube, Label::Ready(tube), jobs),
-            State::Buried { .. } => self.buried.settle(tube, Label::Buried(tube), jobs),
-            State::Delayed { .. } => {
-                self.delayed.settle(tube, Label::Delayed(tube), jobs);
-                self.scheduled.settle(Label::Scheduled, jobs);
+            State::Ready => self
+                .ready
+                .settle(tube, Label::Ready(tube), jobs, spot.pri, id),
+            State::Buried { rank } => self
+                .buried
+                .settle(tube, Label::Buried(tube), jobs, rank, id),
+            State::Delayed { due } => {
+                self.delayed
+                    .settle(tube, Label::Delayed(tube), jobs, due, id);
+                self.scheduled.settle(Label::Scheduled, jobs, due, id);
             }
-            State::Reserved { session, .. } => {
-                self.held.settle(&session, Label::Held(session), jobs);
-                self.scheduled.settle(Label::Scheduled, jobs);
-                self.reserved.settle(tube, Label::Reserved(tube), jobs);
+            State::Reserved { session, due } => {
+                self.held
+                    .settle(&session, Label::Held(session), jobs, due, id);
+                self.scheduled.settle(Label::Scheduled, jobs, due, id);
+                self.reserved
+                    .settle(tube, Label::Reserved(tube), jobs, due, id);
             }
         }
     }

@@ -1,8 +1,9 @@
-ghost use Rattle.std.specs.Prelude.{◌≡◌, ◌^◌, ◌++◌, ◌∷◌, [], IsSome, OnOk, OnErr};
+ghost use Rattle.std.specs.Prelude.{◌≡◌, ◌^◌, ◌++◌, ◌∷◌, [], Some, OnOk, OnErr};
 ghost use Rattle.job_store.specs.Entries.{Rising, value_at, with_value, altered};
 ghost use Rattle.job_store.specs.Undone.{undone, all_undone, set_to, set_back, put_back};
 
 use crate::history::History;
+use crate::job::Job;
 use crate::state::State;
 use crate::stored_job::StoredJob;
 use std::alloc::AllocError;
@@ -27,29 +28,18 @@ pub enum Undo {
     },
 }
 
-/// In a trial, adds to the log what takes back a change of the job at an id, if there is one.
-pub fn note(
-    log: &mut Vec<Undo>,
-    is_trial: bool,
-    id: u64,
-    jobs: &BTreeMap<u64, StoredJob>,
-) -> Result<(), AllocError>
-    ensures ok { OnOk result (log.new.items
-        ≡ log.old.items ++ set_back is_trial id (value_at id jobs.now.entries)) }
+/// In a trial, adds to the log what takes back a change of the job at an id.
+pub fn note(log: &mut Vec<Undo>, is_trial: bool, id: u64, job: &Job) -> Result<(), AllocError>
+    ensures ok { OnOk result (log.new.items ≡ log.old.items ++ set_back is_trial id (Some job.now)) }
     ensures err { OnErr result (log.new.items ≡ log.old.items) }
-    ensures there { OnErr result (IsSome (value_at id jobs.now.entries)) }
 {
-    match jobs.get(&id) {
-        Some(stored) if is_trial => {
-            let job = stored.as_job();
-            log.push(Undo::SetBack {
-                id,
-                pri: job.pri,
-                state: job.state,
-                history: job.history,
-            })?;
-        }
-        _ => {}
+    if is_trial {
+        log.push(Undo::SetBack {
+            id,
+            pri: job.pri,
+            state: job.state,
+            history: job.history,
+        })?;
     }
     Ok(())
 }

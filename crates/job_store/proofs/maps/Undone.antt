@@ -36,6 +36,11 @@ set-undone id lo hi f log (Some job) jobs back r e =
     ap (all_undone log) (altered-back id lo hi f (set_to job.pri job.state job.history) jobs job r e (back job))
 
 -- the jobs before a trial stay at a change that was noted
+-- where there is no job, nothing is noted
+pub noted-none : (is_trial : Bool) (id : ℕ) (o : Option Job) (log : List Undo) → o ≡ None → log ≡ log ++ set_back is_trial id o
+noted-none false id o log e = sym (append-nil log)
+noted-none true id o log e = subst (λ o. log ≡ log ++ set_back true id o) (sym e) (sym (append-nil log))
+
 pub before-set : (is_trial : Bool) (id lo hi : ℕ) (f : Job → Job) (log after : List Undo) (jobs new : List (ℕ × Job))
     → ((job : Job) → set_to job.pri job.state job.history (f job) ≡ job) → Rising lo hi jobs
     → after ≡ log ++ set_back is_trial id (value_at id jobs) → new ≡ altered id f jobs

@@ -12,7 +12,7 @@ use Rattle.job_store.specs.LookUps.{pri_of_job, due_of_job, rank_of_job}
 use Rattle.job_store.specs.ShelfStates.{ShelfState, IsFound}
 use Rattle.job_store.specs.Racks.{shelf_at}
 use Rattle.bean_words.specs.Names.{name_cmp}
-use Rattle.job_store.specs.Shelves.{BelongsAt, shelf, places, AreInReach, HasPut, HasTaken, HasGoneBack, HasCome}
+use Rattle.job_store.specs.Shelves.{BelongsAt, shelf, places, AreAhead, AreInReach, HasPut, HasTaken, HasGoneBack, HasCome}
 
 pub put-twice : {s t u : Shelves} {e : ℕ × Job} → HasPut s t e → HasPut t u e → HasPut s u e
 put-twice {s} {t} {u} {e} one two = record {
@@ -37,10 +37,13 @@ back-twice one two = record {
   lists = two.lists ∙ one.lists;
 }
 
+pub ahead-taken : {s t : Shelves} {jobs : List (ℕ × Job)} → HasTaken s t jobs → AreAhead s jobs → AreAhead t jobs
+ahead-taken taken ahead e i l p b = taken.ahead l p (ahead e i l p b)
+
 pub reach-taken : {s t : Shelves} {jobs : List (ℕ × Job)} → HasTaken s t jobs → AreInReach s jobs → AreInReach t jobs
 reach-taken taken reach = record {
   rising = reach.rising;
-  ahead = λ e i l p b. taken.ahead l p (reach.ahead e i l p b);
+  ahead = ahead-taken taken reach.ahead;
 }
 
 its-tube : (b : Bool) (tube of : List ℕ) → (b && bytes_eq tube of) ≡ true → tube ≡ of

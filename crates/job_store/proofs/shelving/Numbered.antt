@@ -2,10 +2,11 @@
 use Rattle.std.proofs.Common.{◌≡◌, ℕ, true, false, cond, not, ◌&&◌, ◌∙◌, inl, inr, List, [], ◌∷◌, map, refl, sym, ap}
 use Rattle.std.proofs.Common.{ap₂, subst, ◌||◌, Less, Equal, Greater, nat_cmp, Ordering}
 use Rattle.std.proofs.lemmas.Bool.{both_ways}
+use Rattle.std.proofs.lemmas.List.Elements.{All-head, All-tail}
 use Rattle.std.proofs.lemmas.List.Kept.{IsStrictlySortedBy-filter}
 use Rattle.std.specs.Ordering.{ordering_then, match_ordering, is_eq, is_le, is_lt}
 use Rattle.std.specs.List.Sorted.{IsStrictlySortedBy}
-use Rattle.std.specs.List.{AllByRecursion, filter, list_any}
+use Rattle.std.specs.List.{All, AllByRecursion, filter, list_any}
 use Rattle.std.specs.declared.ops.Bound.TheVariants.{Included, Excluded, Unbounded}
 use Rattle.std.specs.BTreeMap.{is_at}
 use Rattle.std.specs.BTreeMap.Range.{range_contains}
@@ -70,6 +71,14 @@ module _ {N : Type 0} (cmp : N → N → Ordering) (value : N → ℕ) (law : (x
       ≡ list_any (is_at (pair_cmp k)) ks
   gone-of k [] = refl
   gone-of k (x ∷ xs) = ap₂ (λ a b. a || b) (ap is_eq (sym (as_places k x))) (gone-of k xs)
+
+  -- none of the places comes after this one
+  pub up-to-of : (last : N × ℕ) (p : ℕ × ℕ) (ks : List (N × ℕ)) → All (λ q. is_lt (pair_cmp last q) ≡ false) ks
+      → In p (map (numbered_place value) ks) → is_lt (shelf_cmp (numbered_place value last) p) ≡ false
+  up-to-of last p [] a i = absurd i
+  up-to-of last p (x ∷ xs) a (inl here) =
+      subst (λ q. is_lt (shelf_cmp (numbered_place value last) q) ≡ false) (sym here) (ap is_lt (sym (as_places last x)) ∙ All-head (λ q. is_lt (pair_cmp last q) ≡ false) x xs a)
+  up-to-of last p (x ∷ xs) a (inr later) = up-to-of last p xs (All-tail (λ q. is_lt (pair_cmp last q) ≡ false) x xs a) later
 
   after-of : (x : N × ℕ) (xs : List (N × ℕ)) → AllByRecursion (λ y. pair_cmp x y ≡ Less) xs
       → AllByRecursion (λ y. shelf_cmp (numbered_place value x) y ≡ Less) (map (numbered_place value) xs)

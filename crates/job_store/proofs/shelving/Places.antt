@@ -98,6 +98,11 @@ lt-after p q =
           ]
     ]
 
+pub from-before : (from p q : ℕ × ℕ) → is_lt (shelf_cmp q p) ≡ false → IsFrom from p → IsFrom from q
+from-before from p q late f =
+    let not-after : is_after q p ≡ false = sym (lt-after q p) ∙ late in
+    grind arith
+
 -- At which place
 
 pub at_place : (p q : ℕ × ℕ) → is_at (shelf_cmp p) q ≡ true → p ≡ q
@@ -231,14 +236,14 @@ found-by old mid new k put reached = (subst (In k) (sym (reached.places ∙ put)
 pub lost-by : (old new : ShelfState) (k : ℕ × ℕ) → new.places ≡ remove_key (is_at (shelf_cmp k)) old.places
     → list_any (is_at (shelf_cmp k)) new.places ≡ false → new.from ≡ old.from → HasLost old new k
 lost-by old new k taken gone same = record {
-  keeps = λ p i apart. subst (In p) (sym taken) (take-keeps k p old.places i apart);
+  keeps = λ p f apart. subst (In p) (sym taken) (take-keeps k p old.places f.0 apart);
   only = λ p i. (take-was (is_at (shelf_cmp k)) p old.places (subst (In p) taken i), take-gone k p new.places gone i);
   ahead = λ p h. subst (λ from. IsFrom from p) (sym same) h;
 }
 
 pub lost-all : (old new : ShelfState) (k : ℕ × ℕ) → HasLost old new k → ((p : ℕ × ℕ) → In p new.places → ⊥) → HasLost old bare k
 lost-all old new k lost none = record {
-  keeps = λ p i apart. none p (lost.keeps p i apart);
+  keeps = λ p f apart. none p (lost.keeps p f apart);
   only = λ p i. absurd i;
   ahead = λ p h. from-zero p;
 }
@@ -283,7 +288,7 @@ pub sorted-first : (k p : ℕ × ℕ) (ps : List (ℕ × ℕ)) → IsStrictlySor
 unfolding IsStrictlySortedBy
 sorted-first k p ps s i = all-in (λ q. shelf_cmp k q ≡ Less) p ps s.0 i
 
-first-from : (k p : ℕ × ℕ) (ps : List (ℕ × ℕ)) → IsStrictlySortedBy shelf_cmp (k ∷ ps) → In p (k ∷ ps) → IsFrom k p
+pub first-from : (k p : ℕ × ℕ) (ps : List (ℕ × ℕ)) → IsStrictlySortedBy shelf_cmp (k ∷ ps) → In p (k ∷ ps) → IsFrom k p
 first-from k p ps s (inl here) = subst (IsFrom k) (sym here) (from-itself k)
 first-from k p ps s (inr later) = from-less k p (sorted-first k p ps s later)
 
@@ -313,6 +318,22 @@ never-before label k ps d e s is (inr later) first =
     (subst (λ q. shelf_cmp q (number label d.1, d.0) ≡ Less) is (sorted-first k (number label d.1, d.0) ps s later))
     in
     grind arith
+
+never-before-from : (label : Label) (k : ℕ × ℕ) (d e : ℕ × Job) → k ≡ (number label e.1, e.0)
+    → IsFrom k (number label d.1, d.0) → ComesBefore (number label) d e → ⊥
+never-before-from label k d e is from first =
+    let later = subst (λ q. IsFrom q (number label d.1, d.0)) is from in
+    grind arith
+
+-- where each job that belongs on the shelf stands at this place or later, the one that stands there is the first
+pub from-is-least : (label : Label) (k : ℕ × ℕ) (jobs : List (ℕ × Job)) (e : ℕ × Job)
+    → ((p : ℕ × ℕ) (d : ℕ × Job) → In d jobs → BelongsAt label p d → IsFrom k p) → In e jobs → BelongsAt label k e
+    → IsLeast (belongs label) (number label) jobs e
+from-is-least label k jobs e all i b = record {
+  member = i;
+  passes = b.0;
+  least = λ d j t first. never-before-from label k d e b.1 (all (number label d.1, d.0) d j (t, refl)) first;
+}
 
 pub first-is-least : (label : Label) (k : ℕ × ℕ) (ps : List (ℕ × ℕ)) (jobs : List (ℕ × Job)) (e : ℕ × Job)
     → AreAllOn label (k ∷ ps) jobs → IsStrictlySortedBy shelf_cmp (k ∷ ps) → In e jobs → BelongsAt label k e

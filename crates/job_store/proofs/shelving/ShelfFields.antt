@@ -12,7 +12,7 @@ use Rattle.job_store.specs.States.{is_ready, is_delayed, is_buried, is_reserved,
 use Rattle.job_store.specs.ShelfStates.{ShelfState, IsFrom, HasGained, HasLost, HasReached}
 use Rattle.job_store.specs.Racks.{shelf_at, AreOthersKept}
 use Rattle.bean_words.specs.Names.{name_cmp}
-use Rattle.job_store.specs.Shelves.{belongs, number, lists, BelongsAt, shelf, HasPut, HasTaken, HasGoneBack, HasMovedOn, HasSettled}
+use Rattle.job_store.specs.Shelves.{belongs, number, lists, BelongsAt, shelf, AreAhead, HasPut, HasTaken, HasGoneBack, HasMovedOn, HasSettled}
 
 -- two labels of one shelf
 pub record IsLike (s t : Shelves) (l k : Label) : Type 0 where
@@ -164,11 +164,12 @@ module _ (s t : Shelves) (k : Label) (only : IsOnly s t k) where
       lists = same;
     }
 
-    pub take-at : (jobs : List (ℕ × Job)) (place : ℕ × ℕ) → ((e : ℕ × Job) → In e jobs → BelongsAt k place e → ⊥)
+    pub take-at : (jobs : List (ℕ × Job)) (place : ℕ × ℕ) → AreAhead s jobs → ((e : ℕ × Job) → In e jobs → BelongsAt k place e → ⊥)
         → HasLost (shelf s k) (shelf t k) place → HasTaken s t jobs
-    take-at jobs place none lost = record {
+    take-at jobs place ahead none lost = record {
       keeps = each-shelf (λ l x y. (p : ℕ × ℕ) (e : ℕ × Job) → In e jobs → BelongsAt l p e → In p x.places → In p y.places)
-          (λ l test by p e i b j. lost.keeps p j (λ at. none e i (subst (λ q. BelongsAt k q e) at (belongs-like l test by p e b))))
+          (λ l test by p e i b j. lost.keeps p (j, ahead e i k p (belongs-like l test by p e b))
+          (λ at. none e i (subst (λ q. BelongsAt k q e) at (belongs-like l test by p e b))))
           (λ l x p e i b j. j);
       only = each-shelf (λ l x y. (p : ℕ × ℕ) → In p y.places → In p x.places) (λ l test by p i. (lost.only p i).0) (λ l x p i. i);
       ahead = each-shelf (λ l x y. (p : ℕ × ℕ) → IsFrom x.from p → IsFrom y.from p) (λ l test by. lost.ahead) (λ l x p h. h);

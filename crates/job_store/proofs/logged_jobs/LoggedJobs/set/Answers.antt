@@ -7,15 +7,15 @@ use Rattle.job_store.proofs.maps.Undone.{before-set}
 use Rattle.job_store.proofs.logged_jobs.LoggedJobs.set.Goals as goal
 
 pub invariant_of-self-2 : goal.invariant_of-self-2
-invariant_of-self-2 c = Rising-same _ _ _ _ c.make.ensures (Rising-altered c.args.id (marked_at c.args.pri c.args.state c.args.mark) _ _ _ c.self.invariant)
+invariant_of-self-2 c = Rising-same _ _ _ _ c.in_ok-make.ensures.jobs (Rising-altered c.args.id (marked_at c.args.pri c.args.state c.args.mark) _ _ _ c.self.invariant)
 
 pub returns-clause-rising : goal.returns-clause-rising
-returns-clause-rising c = Rising-same _ _ _ _ c.make.ensures (Rising-altered c.args.id (marked_at c.args.pri c.args.state c.args.mark) _ _ _ c.self.invariant)
+returns-clause-rising c = Rising-same _ _ _ _ c.in_ok-make.ensures.jobs (Rising-altered c.args.id (marked_at c.args.pri c.args.state c.args.mark) _ _ _ c.self.invariant)
 
 pub returns-clause-before : goal.returns-clause-before
 returns-clause-before c =
     before-set c.self.inside.is_trial c.args.id _ _
-    (marked_at c.args.pri c.args.state c.args.mark) c.self.inside.log.items c.note.new.log.items
+    (marked_at c.args.pri c.args.state c.args.mark) c.self.inside.log.items c.make.new.log.items
     c.self.inside.jobs.entries c.make.new.jobs.entries
-    (λ job. refl) c.self.invariant c.in_ok-note.ensures.ok c.make.ensures ∙
+    (λ job. refl) c.self.invariant c.in_ok-make.ensures.log c.in_ok-make.ensures.jobs ∙
     ap (λ (m : MapState). m.before) c.self.view_is

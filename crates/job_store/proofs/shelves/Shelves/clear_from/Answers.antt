@@ -7,5 +7,5 @@ pub take_off-requires : goal.take_off-requires
 take_off-requires c = sym (c.fits.ensures c.args.id (at_spot c.args.spot.now) refl refl) ∙ c.if-fits.true
 
 pub returns-then-fits-clause-taken : goal.returns-then-fits-clause-taken
-returns-then-fits-clause-taken c jobs lacks =
-    c.take_off.ensures.taken jobs (alone-without c.args.label c.args.id (at_spot c.args.spot.now) jobs lacks)
+returns-then-fits-clause-taken c jobs ahead lacks =
+    c.take_off.ensures.taken jobs ahead (alone-without c.args.label c.args.id (at_spot c.args.spot.now) jobs lacks)

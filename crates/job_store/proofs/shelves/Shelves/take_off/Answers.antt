@@ -9,10 +9,10 @@ use Rattle.job_store.proofs.shelving.ShelfFields.{only-ready, only-delayed, only
 use Rattle.job_store.proofs.shelves.Shelves.take_off.Goals as goal
 
 pub returns-in-Ready-clause-taken : goal.returns-in-Ready-clause-taken
-returns-in-Ready-clause-taken c jobs none =
+returns-in-Ready-clause-taken c jobs ahead none =
     take-at c.args.self.now (record c.args.self.now { ready = c.take.new.self }) (Label.Ready c.in-Ready.tube)
     (only-ready c.args.self.now c.take.new.self c.in-Ready.tube c.take.ensures.others) refl jobs
-    (c.args.spot.now.pri, c.args.id)
+    (c.args.spot.now.pri, c.args.id) ahead
     (subst (λ n. (e : ℕ × Job) → In e jobs → BelongsAt (Label.Ready c.in-Ready.tube) (n, c.args.id) e
     → ⊥) (c.number-number.ensures (at_spot c.args.spot.now) refl refl ∙ ap
     (λ (l : Label). number l (at_spot c.args.spot.now)) c.in-Ready.is)
@@ -31,11 +31,11 @@ returns-in-Ready-clause-gone c p i b =
     (ap (λ (l : Label). number l (at_spot c.args.spot.now)) (sym c.in-Ready.is)) b)
 
 pub returns-in-Delayed-clause-taken : goal.returns-in-Delayed-clause-taken
-returns-in-Delayed-clause-taken c jobs none =
+returns-in-Delayed-clause-taken c jobs ahead none =
     take-at c.args.self.now (record c.args.self.now { delayed = c.take-in-Delayed.new.self })
     (Label.Delayed c.in-Delayed.tube)
     (only-delayed c.args.self.now c.take-in-Delayed.new.self c.in-Delayed.tube c.take-in-Delayed.ensures.others)
-    refl jobs (c.number-number.result, c.args.id)
+    refl jobs (c.number-number.result, c.args.id) ahead
     (subst (λ (l : Label). (e : ℕ × Job) → In e jobs
     → BelongsAt l (c.number-number.result, c.args.id) e → ⊥) c.in-Delayed.is
     (untaken c.args.label c.args.id c.number-number.result c.args.spot.now jobs
@@ -51,11 +51,11 @@ returns-in-Delayed-clause-gone c p i b =
     (c.number-number.ensures (at_spot c.args.spot.now) refl refl) b)
 
 pub returns-in-Buried-clause-taken : goal.returns-in-Buried-clause-taken
-returns-in-Buried-clause-taken c jobs none =
+returns-in-Buried-clause-taken c jobs ahead none =
     take-at c.args.self.now (record c.args.self.now { buried = c.take-in-Buried.new.self })
     (Label.Buried c.in-Buried.tube)
     (only-buried c.args.self.now c.take-in-Buried.new.self c.in-Buried.tube c.take-in-Buried.ensures.others) refl
-    jobs (c.number-number.result, c.args.id)
+    jobs (c.number-number.result, c.args.id) ahead
     (subst (λ (l : Label). (e : ℕ × Job) → In e jobs
     → BelongsAt l (c.number-number.result, c.args.id) e → ⊥) c.in-Buried.is
     (untaken c.args.label c.args.id c.number-number.result c.args.spot.now jobs
@@ -71,10 +71,10 @@ returns-in-Buried-clause-gone c p i b =
     (c.number-number.ensures (at_spot c.args.spot.now) refl refl) b)
 
 pub returns-in-Held-clause-taken : goal.returns-in-Held-clause-taken
-returns-in-Held-clause-taken c jobs none =
+returns-in-Held-clause-taken c jobs ahead none =
     take-at c.args.self.now (record c.args.self.now { held = c.take-in-Held.new.self }) (Label.Held c.in-Held.session)
     (only-held c.args.self.now c.take-in-Held.new.self c.in-Held.session c.take-in-Held.ensures.others) refl
-    jobs (c.number-number.result, c.args.id)
+    jobs (c.number-number.result, c.args.id) ahead
     (subst (λ (l : Label). (e : ℕ × Job) → In e jobs
     → BelongsAt l (c.number-number.result, c.args.id) e → ⊥) c.in-Held.is
     (untaken c.args.label c.args.id c.number-number.result c.args.spot.now jobs
@@ -90,10 +90,10 @@ returns-in-Held-clause-gone c p i b =
     (c.number-number.ensures (at_spot c.args.spot.now) refl refl) b)
 
 pub returns-in-Scheduled-clause-taken : goal.returns-in-Scheduled-clause-taken
-returns-in-Scheduled-clause-taken c jobs none =
+returns-in-Scheduled-clause-taken c jobs ahead none =
     take-at c.args.self.now (record c.args.self.now { scheduled = c.take-in-Scheduled.new.self }) Label.Scheduled
     (only-scheduled c.args.self.now c.take-in-Scheduled.new.self) refl jobs
-    (c.number-number.result, c.args.id)
+    (c.number-number.result, c.args.id) ahead
     (subst (λ (l : Label). (e : ℕ × Job) → In e jobs
     → BelongsAt l (c.number-number.result, c.args.id) e → ⊥) c.in-Scheduled.is
     (untaken c.args.label c.args.id c.number-number.result c.args.spot.now jobs
@@ -109,11 +109,11 @@ returns-in-Scheduled-clause-gone c p i b =
     (c.number-number.ensures (at_spot c.args.spot.now) refl refl) b)
 
 pub returns-in-Reserved-clause-taken : goal.returns-in-Reserved-clause-taken
-returns-in-Reserved-clause-taken c jobs none =
+returns-in-Reserved-clause-taken c jobs ahead none =
     take-at c.args.self.now (record c.args.self.now { reserved = c.take-in-Reserved.new.self })
     (Label.Reserved c.in-Reserved.tube)
     (only-reserved c.args.self.now c.take-in-Reserved.new.self c.in-Reserved.tube c.take-in-Reserved.ensures.others)
-    refl jobs (c.number-number.result, c.args.id)
+    refl jobs (c.number-number.result, c.args.id) ahead
     (subst (λ (l : Label). (e : ℕ × Job) → In e jobs
     → BelongsAt l (c.number-number.result, c.args.id) e → ⊥) c.in-Reserved.is
     (untaken c.args.label c.args.id c.number-number.result c.args.spot.now jobs
