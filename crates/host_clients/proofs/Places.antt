@@ -1,8 +1,8 @@
 -- A session has one seat.
 use Rattle.std.proofs.lemmas.Option.{same_Some}
-use Rattle.std.proofs.Common.{◌≡◌, ◌≢◌, ◌⊎◌, inl, inr, ⊎_elim, ◌<◌, ℕ, zero, suc, List, [], ◌∷◌, ◌++◌, Some, length, refl, sym, ap, arith}
+use Rattle.std.proofs.Common.{◌≡◌, ◌≢◌, ◌⊎◌, inl, inr, ⊎_elim, ◌<◌, ◌-◌, ◌/◌, ◌%◌, ℕ, zero, suc, List, [], ◌∷◌, ◌++◌, Some, length, refl, sym, ap, arith}
 use Rattle.std.specs.Prelude.{slice_get, slice_set, slice_index_or}
-use Rattle.host_clients.specs.Clients.{ClientsState, HasSeat}
+use Rattle.host_clients.specs.Clients.{ClientsState, HasSeat, IsEarlier}
 
 pub one_place : {Op Reply : Type 0} (s : ClientsState Op Reply) (session p q : ℕ) → HasSeat s session p → HasSeat s session q
     → p ≡ q
@@ -45,3 +45,12 @@ more_cases (z ∷ zs) (suc q) x y e = ⊎_elim
     (λ (a : (q ≡ length zs) × (y ≡ x)). inl (let same = a.0 in omega (arith, same), a.1))
     (λ (b : slice_get zs q ≡ Some y). inr b)
     (more_cases zs q x y e)
+
+-- steps of 8 lead from an earlier session to the first one
+pub steps_lead : {Op Reply : Type 0} (s : ClientsState Op Reply) (session : ℕ) → 0 < session → session < s.first
+    → (s.first - session) % 8 ≡ 0 → IsEarlier s session
+steps_lead s session some low even = record {
+  steps = (s.first - session) / 8 - 1;
+  below = omega (arith, some, low, even);
+  client = some;
+}

@@ -1,6 +1,7 @@
 ghost use Rattle.std.specs.Prelude.{◌≡◌, ℕ, [], max, true, false, IfOk, IfSome, IfNone, OnErr, IsErrOf, slice_get};
 ghost use Rattle.std.specs.Option.{option_copied};
-ghost use Rattle.host_clients.specs.Clients.{no_clients, HasSeat, OpensAs, HandsInNext, HearsAnswer, Frees, EndsAtPlace, EndsEarlier, IsEarlier};
+ghost use Rattle.object.specs.declared.command.Act.TheVariants.{Close};
+ghost use Rattle.host_clients.specs.Clients.{no_clients, HasSeat, OpensAs, HandsInNext, HearsAnswer, Frees, EndsAtPlace, EndsEarlier, IsEarlier, last_number};
 
 use crate::client_fault::ClientFault;
 use crate::seat::{LAST_NUMBER, Seat};
@@ -159,11 +160,10 @@ impl<Op: Value, Reply: Value> Clients<Op, Reply> {
         if session == 0 || session >= self.first || (self.first - session) % 8 != 0 {
             return Err(ClientFault::NoSession);
         }
-        let key = Key {
-            session,
-            number: LAST_NUMBER,
-        };
-        Command::new(key, Act::Close).ok_or(ClientFault::NoCommand)
+        match end_of(session) {
+            Some(end) => Ok(end),
+            None => Err(ClientFault::NoSession),
+        }
     }
 
     // The place of a session's seat.
@@ -178,4 +178,17 @@ impl<Op: Value, Reply: Value> Clients<Op, Reply> {
             None
         }
     }
+}
+
+// The end of a session, under the greatest number of all.
+fn end_of<Op: Value>(session: u32) -> Option<Command<Op>>
+    ensures some { IfSome result (λ end.
+        (end.key ≡ record { session = session; number = last_number }) × (end.act ≡ Close)) }
+    ensures none { IfNone result (session ≡ 0) }
+{
+    let key = Key {
+        session,
+        number: LAST_NUMBER,
+    };
+    Command::new(key, Act::Close)
 }
