@@ -1,7 +1,7 @@
 -- What clients hand in has a key of its own.
 use Rattle.std.proofs.Common.{◌≡◌, ◌≢◌, ◌⊎◌, inl, inr, ⊎_elim, ◌+◌, ℕ, Bool, true, false, cond, Option, Some, None}
 use Rattle.std.proofs.Common.{List, [], ◌∷◌, ◌++◌, length, length-append, refl, sym, ap, ◌∙◌, subst, arith}
-use Rattle.std.specs.Prelude.{slice_get}
+use Rattle.std.specs.Prelude.{slice_get, slice_set}
 use Rattle.std.proofs.lemmas.Option.{same_Some}
 use Rattle.object.specs.KeyLaws.{same_is}
 use Rattle.object.specs.Keys.{same_key}
@@ -15,7 +15,7 @@ use Rattle.cluster.specs.Clusters.{Hosts, with_handed}
 use Rattle.cluster.proofs.alone.Acting.{same_number}
 use Rattle.cluster.proofs.together.HandingIn.{handed_still}
 use Rattle.host_clients.specs.Clients.{ClientsState, OpensAs, again, next, HandsInNext, EndsEarlier, HearsAnswer, there, nowhere, Frees}
-use Rattle.host_clients.specs.Clients.{no_clients, last_number, seat_session, opened_seat, heard, first_of, reply_if}
+use Rattle.host_clients.specs.Clients.{no_clients, last_number, seat_session, opened_seat, closed_seat, heard, first_of, reply_if}
 use Rattle.host_clients.specs.Owning.{AreClientsOf, HasOnlyEndsLast}
 use Rattle.host_clients.specs.declared.seat.Seat.{Seat}
 use Rattle.host_clients.proofs.Places.{set_cases, more_cases, set_length}
@@ -41,14 +41,14 @@ handed_last handed n c = subst (In c)
 same_command : {Op : Type 0} (c d : Command Op) → c.key ≡ d.key → c.act ≡ d.act → c ≡ d
 same_command c d key act = λ i. record { key = key i; act = act i }
 
--- a session that was only opened has no last command, and one that handed one in has no reply
-no_last : {Op Reply : Type 0} {X : Type 0} (c : Command Op) (seat : Seat Op Reply) (number : ℕ) → seat ≡ opened_seat number
+-- a seat without a last command has none, and one that handed one in has no reply
+no_last : {Op Reply : Type 0} {X : Type 0} (c : Command Op) (seat x : Seat Op Reply) → x.last ≡ None → seat ≡ x
     → seat.last ≡ Some c → X
-no_last {Op} {Reply} c seat number e last =
-    let none : None ≡ Some c = sym (ap (λ (x : Seat Op Reply). x.last) e) ∙ last in absurd (cc)
+no_last {Op} {Reply} c seat x empty e last =
+    let none : None ≡ Some c = sym empty ∙ sym (ap (λ (y : Seat Op Reply). y.last) e) ∙ last in absurd (cc)
 
 no_reply : {Op Reply : Type 0} {X : Type 0} (c : Command Op) (seat : Seat Op Reply) (reply : Reply)
-    → seat ≡ record { number = c.key.number; last = Some c; reply = None } → seat.reply ≡ Some reply → X
+    → seat ≡ record { number = c.key.number; is_open = true; last = Some c; reply = None } → seat.reply ≡ Some reply → X
 no_reply {Op} {Reply} c seat reply e is =
     let none : None ≡ Some reply = sym (ap (λ (x : Seat Op Reply). x.reply) e) ∙ is in absurd (cc)
 
@@ -65,16 +65,35 @@ module _ {Op O Reply : Type 0} (owner : ℕ → ℕ) (n : ℕ) (k : Hosts Op O R
     ends = ends;
   }
 
+  -- a seat that has no last command any more
+  emptied : (s : ClientsState Op Reply) (p : ℕ) (seat x : Seat Op Reply) (free : List ℕ) → AreClientsOf owner s n k
+      → slice_get s.seats p ≡ Some seat → x.last ≡ None → x.number ≡ seat.number
+      → AreClientsOf owner (record s { seats = slice_set s.seats p x; free = free }) n k
+  emptied s p seat x free are was empty number =
+      let same = set_length s.seats p x in
+      record {
+        owns = are.owns;
+        unused = λ c place i e low. are.unused c place i e (omega (arith, low, same));
+        numbers = λ c place y i e at. ⊎_elim
+            (λ (a : (place ≡ p) × (y ≡ x)).
+            let low = are.numbers c p seat i (e ∙ ap (seat_session s.first) a.0) was in
+            let is = ap (λ (z : Seat Op Reply). z.number) a.1 in omega (arith, low, is, number))
+            (λ (b : (place ≢ p) × (slice_get s.seats place ≡ Some y)). are.numbers c place y i e b.1)
+            (set_cases s.seats p place x y at);
+        last = λ place y c at last. ⊎_elim
+            (λ (a : (place ≡ p) × (y ≡ x)). no_last c y x empty a.1 last)
+            (λ (b : (place ≢ p) × (slice_get s.seats place ≡ Some y)). are.last place y c b.1 last)
+            (set_cases s.seats p place x y at);
+        replies = λ place y c reply at last e. ⊎_elim
+            (λ (a : (place ≡ p) × (y ≡ x)). no_last c y x empty a.1 last)
+            (λ (b : (place ≢ p) × (slice_get s.seats place ≡ Some y)). are.replies place y c reply b.1 last e)
+            (set_cases s.seats p place x y at);
+        ends = are.ends;
+      }
+
   pub opening : (s z : ClientsState Op Reply) (session : ℕ) → AreClientsOf owner s n k → OpensAs s session z
       → AreClientsOf owner z n k
-  opening s _ _ are (again place free e) = record {
-    owns = are.owns;
-    unused = are.unused;
-    numbers = are.numbers;
-    last = are.last;
-    replies = are.replies;
-    ends = are.ends;
-  }
+  opening s _ _ are (again place free seat e was) = emptied s place seat (opened_seat seat.number) free are was refl refl
   opening s _ _ are (next none within) = record {
     owns = are.owns;
     unused = λ c place i e low.
@@ -87,12 +106,12 @@ module _ {Op O Reply : Type 0} (owner : ℕ → ℕ) (n : ℕ) (k : Hosts Op O R
         (more_cases s.seats place (opened_seat 0) seat was);
     last = λ place seat c was last. ⊎_elim
         (λ (a : (place ≡ length s.seats) × (seat ≡ opened_seat 0)).
-        no_last c seat 0 a.1 last)
+        no_last c seat (opened_seat 0) refl a.1 last)
         (λ (b : slice_get s.seats place ≡ Some seat). are.last place seat c b last)
         (more_cases s.seats place (opened_seat 0) seat was);
     replies = λ place seat c reply was last e. ⊎_elim
         (λ (a : (place ≡ length s.seats) × (seat ≡ opened_seat 0)).
-        no_last c seat 0 a.1 last)
+        no_last c seat (opened_seat 0) refl a.1 last)
         (λ (b : slice_get s.seats place ≡ Some seat). are.replies place seat c reply b last e)
         (more_cases s.seats place (opened_seat 0) seat was);
     ends = are.ends;
@@ -106,7 +125,7 @@ module _ {Op O Reply : Type 0} (owner : ℕ → ℕ) (n : ℕ) (k : Hosts Op O R
   handing s z session act c are h =
       let mine : c.key.session ≡ seat_session s.first h.place = ap (λ (q : Key). q.session) h.key ∙ h.has.number in
       let more : c.key.number ≡ h.seat.number + 1 = ap (λ (q : Key). q.number) h.key in
-      let seat : Seat Op Reply = record { number = c.key.number; last = Some c; reply = None } in
+      let seat : Seat Op Reply = record { number = c.key.number; is_open = true; last = Some c; reply = None } in
       let same = set_length s.seats h.place seat in (
         ap owner mine ∙ are.owns h.place,
         λ d i e. absurd (let low = are.numbers d h.place h.seat i (ap (λ (q : Key). q.session) e ∙ mine) h.was in
@@ -234,28 +253,8 @@ module _ {Op O Reply : Type 0} (owner : ℕ → ℕ) (n : ℕ) (k : Hosts Op O R
 
   pub freeing : (s z : ClientsState Op Reply) (key : Key) → AreClientsOf owner s n k → Frees key s z
       → AreClientsOf owner z n k
-  freeing s z key are f =
-      let then : Seat Op Reply = opened_seat f.ends.seat.number in
-      let same = set_length s.seats f.place then in
-      subst (λ x. AreClientsOf owner x n k) (sym f.becomes) (record {
-        owns = are.owns;
-        unused = λ c place i e low. are.unused c place i e (omega (arith, low, same));
-        numbers = λ c place y i e at. ⊎_elim
-            (λ (a : (place ≡ f.place) × (y ≡ then)).
-            let low = are.numbers c f.place f.ends.seat i (e ∙ ap (seat_session s.first) a.0) f.ends.was in
-            let is = ap (λ (x : Seat Op Reply). x.number) a.1 in omega (arith, low, is))
-            (λ (b : (place ≢ f.place) × (slice_get s.seats place ≡ Some y)). are.numbers c place y i e b.1)
-            (set_cases s.seats f.place place then y at);
-        last = λ place y c at last. ⊎_elim
-            (λ (a : (place ≡ f.place) × (y ≡ then)). no_last c y f.ends.seat.number a.1 last)
-            (λ (b : (place ≢ f.place) × (slice_get s.seats place ≡ Some y)). are.last place y c b.1 last)
-            (set_cases s.seats f.place place then y at);
-        replies = λ place y c reply at last e. ⊎_elim
-            (λ (a : (place ≡ f.place) × (y ≡ then)). no_last c y f.ends.seat.number a.1 last)
-            (λ (b : (place ≢ f.place) × (slice_get s.seats place ≡ Some y)). are.replies place y c reply b.1 last e)
-            (set_cases s.seats f.place place then y at);
-        ends = are.ends;
-      })
+  freeing s z key are f = subst (λ x. AreClientsOf owner x n k) (sym f.becomes)
+      (emptied s f.place f.ends.seat (closed_seat f.ends.seat.number) (s.free ++ (f.place ∷ [])) are f.ends.was refl refl)
 
   pub going_on : (s : ClientsState Op Reply) (j : Hosts Op O Reply) → AreClientsOf owner s n k
       → j.handed n ≡ k.handed n → ((a : Answer Reply) → In a k.happenings.answers → In a j.happenings.answers)

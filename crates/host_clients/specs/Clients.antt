@@ -1,5 +1,5 @@
 -- The clients of one host (the client table of Viewstamped Replication Revisited, 4.1).
-use Rattle.std.specs.Prelude.{◌≡◌, ◌<◌, ◌+◌, ◌*◌, ◌^◌, ◌++◌, ℕ, suc, List, [], ◌∷◌, Option, None, Some, length, option_map}
+use Rattle.std.specs.Prelude.{◌≡◌, ◌<◌, ◌+◌, ◌*◌, ◌^◌, ◌++◌, ℕ, suc, true, false, List, [], ◌∷◌, Option, None, Some, length, option_map}
 use Rattle.std.specs.Prelude.{slice_get, slice_set, if◌then◌else◌}
 use Rattle.object.specs.Keys.{same_key}
 use Rattle.object.specs.declared.command.Act.{Act}
@@ -30,16 +30,22 @@ pub record HasSeat {Op Reply : Type 0} (s : ClientsState Op Reply) (session plac
   pub number : session ≡ seat_session s.first place
   pub within : place < length s.seats
 
--- a session that has handed in nothing since it was opened; its last command before had this number
+-- the seat of a session that has handed in nothing since it was opened; its last command before had this number
 abbrev pub opened_seat : {Op Reply : Type 0} → ℕ → Seat Op Reply
-opened_seat number = record { number = number; last = None; reply = None }
+opened_seat number = record { number = number; is_open = true; last = None; reply = None }
+
+-- and of one that has ended
+abbrev pub closed_seat : {Op Reply : Type 0} → ℕ → Seat Op Reply
+closed_seat number = record { number = number; is_open = false; last = None; reply = None }
 
 -- A session opens: that of the seat which became free last, and where none is, the next one, if that may be used.
 pub data OpensAs {Op Reply : Type 0} (s : ClientsState Op Reply) : ℕ → ClientsState Op Reply → Type 0 where
   again :
-      (place : ℕ) (free : List ℕ)
+      (place : ℕ) (free : List ℕ) (seat : Seat Op Reply)
       → s.free ≡ free ++ (place ∷ [])
-      → OpensAs s (seat_session s.first place) (record s { free = free })
+      → slice_get s.seats place ≡ Some seat
+      → OpensAs s (seat_session s.first place)
+      (record s { seats = slice_set s.seats place (opened_seat seat.number); free = free })
   next :
       s.free ≡ []
       → seat_session s.first (length s.seats) < s.limit
@@ -48,12 +54,20 @@ pub data OpensAs {Op Reply : Type 0} (s : ClientsState Op Reply) : ℕ → Clien
 -- the session's seat with this command as its last one
 abbrev pub with_last_command : {Op Reply : Type 0} → ℕ → Command Op → ClientsState Op Reply → ClientsState Op Reply
 with_last_command place c s =
-    record s { seats = slice_set s.seats place (record { number = c.key.number; last = Some c; reply = None }) }
+    record s { seats = slice_set s.seats place (record { number = c.key.number; is_open = true; last = Some c; reply = None }) }
 
 -- the greatest number of a command, with which a later process ends the sessions of this one, and nobody asks for
 -- anything else
 abbrev pub last_number : ℕ
 last_number = 2 ^ 62
+
+-- a client has the session
+pub record IsOpen {Op Reply : Type 0} (s : ClientsState Op Reply) (session : ℕ) : Type 0 where
+  pub place : ℕ
+  pub has : HasSeat s session place
+  pub seat : Seat Op Reply
+  pub was : slice_get s.seats place ≡ Some seat
+  pub still : seat.is_open ≡ true
 
 -- a command of the session at this place is handed in: the next one, which asks for this
 pub record HandsInNext {Op Reply : Type 0} (s : ClientsState Op Reply) (session : ℕ) (act : Act Op) (c : Command Op)
@@ -62,6 +76,7 @@ pub record HandsInNext {Op Reply : Type 0} (s : ClientsState Op Reply) (session 
   pub has : HasSeat s session place
   pub seat : Seat Op Reply
   pub was : slice_get s.seats place ≡ Some seat
+  pub still : seat.is_open ≡ true
   pub key : c.key ≡ record { session = session; number = seat.number + 1 }
   pub below : c.key.number < last_number
   pub asks : c.act ≡ act
@@ -126,6 +141,6 @@ pub record Frees {Op Reply : Type 0} (key : Key) (s z : ClientsState Op Reply) :
   pub place : ℕ
   pub ends : EndsAtPlace s place key
   pub becomes : z ≡ record s {
-    seats = slice_set s.seats place (opened_seat ends.seat.number);
+    seats = slice_set s.seats place (closed_seat ends.seat.number);
     free = s.free ++ (place ∷ []);
   }

@@ -1,7 +1,8 @@
-ghost use Rattle.std.specs.Prelude.{◌≡◌, ℕ, [], max, true, false, IfOk, IfSome, IfNone, OnErr, IsErrOf, slice_get};
+ghost use Rattle.std.specs.Prelude.{◌≡◌, ℕ, [], max, Some, true, false, IfOk, IfSome, IfNone, OnErr, IsErrOf, slice_get};
 ghost use Rattle.std.specs.Option.{option_copied};
 ghost use Rattle.object.specs.declared.command.Act.TheVariants.{Close};
-ghost use Rattle.host_clients.specs.Clients.{no_clients, HasSeat, OpensAs, HandsInNext, HearsAnswer, Frees, EndsAtPlace, EndsEarlier, IsEarlier, last_number};
+ghost use Rattle.host_clients.specs.Clients.{no_clients, HasSeat, OpensAs, HandsInNext, HearsAnswer, Frees, EndsAtPlace, EndsEarlier, IsEarlier, IsOpen, last_number};
+ghost use Rattle.host_clients.specs.declared.seat.Seat as seats;
 
 use crate::client_fault::ClientFault;
 use crate::seat::{LAST_NUMBER, Seat};
@@ -69,6 +70,13 @@ impl<Op: Value, Reply: Value> Clients<Op, Reply> {
         ensures err { OnErr result (self.new ≡ self.old) }
     {
         if let Some(place) = self.free.pop() {
+            let number = self.seats[place].number;
+            self.seats[place] = Seat {
+                number,
+                is_open: true,
+                last: None,
+                reply: None,
+            };
             return Ok(self.first + 8 * place as u32);
         }
         let next = u64::from(self.first) + 8 * self.seats.len() as u64;
@@ -78,6 +86,7 @@ impl<Op: Value, Reply: Value> Clients<Op, Reply> {
         self.seats.reserve(1)?;
         self.seats.push_reserved(Seat {
             number: 0,
+            is_open: true,
             last: None,
             reply: None,
         });
@@ -89,17 +98,22 @@ impl<Op: Value, Reply: Value> Clients<Op, Reply> {
     pub fn hand_in(&mut self, session: u32, act: Act<Op>) -> Result<Command<Op>, ClientFault>
         ensures ok { IfOk result (λ command. HandsInNext self.old session act command self.new) }
         ensures none { IsErrOf result ClientFault.NoSession →
-            (place : ℕ) → HasSeat self.old session place → ⊥ }
+            IsOpen self.old session → ⊥ }
         ensures err { OnErr result (self.new ≡ self.old) }
     {
-        let place = self.place(session).ok_or(ClientFault::NoSession)?;
-        let number = self.seats[place]
-            .next_number()
-            .ok_or(ClientFault::NoCommand)?;
-        let command = Command::new(Key { session, number }, act).ok_or(ClientFault::NoCommand)?;
+        let Some(place) = self.open_place(session) else {
+            return Err(ClientFault::NoSession);
+        };
+        let Some(number) = self.seats[place].next_number() else {
+            return Err(ClientFault::NoCommand);
+        };
+        let Some(command) = Command::new(Key { session, number }, act) else {
+            return Err(ClientFault::NoCommand);
+        };
         let last = Some(command.copy()?);
         self.seats[place] = Seat {
             number,
+            is_open: true,
             last,
             reply: None,
         };
@@ -145,6 +159,7 @@ impl<Op: Value, Reply: Value> Clients<Op, Reply> {
         let number = self.seats[place].number;
         self.seats[place] = Seat {
             number,
+            is_open: false,
             last: None,
             reply: None,
         };
@@ -163,6 +178,23 @@ impl<Op: Value, Reply: Value> Clients<Op, Reply> {
         match end_of(session) {
             Some(end) => Ok(end),
             None => Err(ClientFault::NoSession),
+        }
+    }
+
+    // The place of the seat of a session that a client has.
+    fn open_place(&self, session: u32) -> Option<usize>
+        ensures some { IfSome result (λ place. HasSeat self.now session place) }
+        ensures still { IfSome result (λ place. (seat : seats.Seat Op Reply) →
+            slice_get self.now.seats place ≡ Some seat → seat.is_open ≡ true) }
+        ensures none { IfNone result (IsOpen self.now session → ⊥) }
+    {
+        let Some(place) = self.place(session) else {
+            return None;
+        };
+        if self.seats[place].is_open {
+            Some(place)
+        } else {
+            None
         }
     }
 

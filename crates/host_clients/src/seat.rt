@@ -12,6 +12,8 @@ pub(crate) const LAST_NUMBER: u64 = 1 << 62;
 #[derive(Drop)]
 pub struct Seat<Op, Reply> {
     pub number: u64,
+    /// Whether a client has the session.
+    pub is_open: bool,
     pub last: Option<Command<Op>>,
     pub reply: Option<Reply>,
 }

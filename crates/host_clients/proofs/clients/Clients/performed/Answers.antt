@@ -1,7 +1,7 @@
 use Rattle.std.proofs.Common.{◌≡◌, ◌<◌, ◌++◌, ◌∷◌, [], length, Some, refl, sym, ap, ◌∙◌, subst, arith}
 use Rattle.std.specs.Prelude.{slice_get, slice_set, slice_index_or}
 use Rattle.object.specs.ListLaws.{Each, Each-append}
-use Rattle.host_clients.specs.Clients.{ClientsState, IsEndOf, opened_seat}
+use Rattle.host_clients.specs.Clients.{ClientsState, IsEndOf, closed_seat}
 use Rattle.host_clients.specs.declared.seat.Seat.{Seat}
 use Rattle.std.proofs.lemmas.Option.{same_Some}
 use Rattle.host_clients.proofs.Places.{at_place, one_place, set_length}
@@ -24,7 +24,7 @@ returns-then-not-ends_with-clause-ends g c = λ no place ends.
 
 pub invariant_of-self-2 : goal.invariant_of-self-2
 invariant_of-self-2 g c =
-    let seat : Seat _ _ = opened_seat c.index-2.result.now.number in
+    let seat : Seat _ _ = closed_seat c.index-2.result.now.number in
     let same = set_length c.self.inside.seats.items c.in-Some.place seat in
     let here = c.in-Some.ensures.some in
     let within : c.in-Some.place < length c.self.inside.seats.items =
@@ -54,12 +54,12 @@ returns-clause-yes g c = λ yes.
       ends = record { has = here; seat = c.index-2.result.now; was = second; end = end };
       becomes = ap (λ free. record {
         first = c.self.inside.first;
-        seats = slice_set c.self.inside.seats.items c.in-Some.place (opened_seat c.index-2.result.now.number);
+        seats = slice_set c.self.inside.seats.items c.in-Some.place (closed_seat c.index-2.result.now.number);
         limit = c.self.inside.limit;
         free = free;
       }) c.in_ok-push.ensures.items
           ∙ ap (λ (s : ClientsState _ _). record s {
-            seats = slice_set s.seats c.in-Some.place (opened_seat c.index-2.result.now.number);
+            seats = slice_set s.seats c.in-Some.place (closed_seat c.index-2.result.now.number);
             free = s.free ++ (c.in-Some.place ∷ []);
           }) c.self.view_is;
     }
